@@ -105,7 +105,7 @@ def chain(before, names):
 
 
 # The words of a line behind which only the named may stand: the lines of one command belong together.
-OPEN = {"turn": "round", "mark": "ticked", "ID": "book", "PLACE": "mailbox"}
+OPEN = {"turn": ("round",), "mark": ("ticked",), "ID": ("book",), "PLACE": ("mailbox", "vault")}
 
 
 def part_of(form):
@@ -142,8 +142,9 @@ class Order:
 
     def take(self, line):
         part, last = part_of(line.form), OPEN.get(self.part)
-        if last is not None and part != self.part and line.key != last:
-            raise Unreadable(line.number, f"stands where `{last}` ought to be: {line.text[:100]!r}")
+        if last is not None and part != self.part and line.key not in last:
+            ought = "` or `".join(last)
+            raise Unreadable(line.number, f"stands where `{ought}` ought to be: {line.text[:100]!r}")
         count = int(line.said.get("COUNT", line.said["PLACE"] if part == "PLACE" else self.count))
         if count != self.count:
             raise Unreadable(line.number, f"counts other than {self.count} lines before it: {line.text[:100]!r}")

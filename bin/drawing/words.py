@@ -40,7 +40,7 @@ VALUES = {
     "KEPT": DIGEST,
     "GIVEN": DIGEST,
     "FIELD": "(?:name|mailReceipt|managedDomains|key|zone|limit|account|address|quota)",
-    # an item of a mailbox begins with its seal
+    # an item begins with its seal
     "BASE64": "WC1TaWdpbGxv(?:[A-Za-z0-9+/]{4})*(?:[A-Za-z0-9+/]{2}==|[A-Za-z0-9+/]{3}=)?",
 }
 
@@ -75,6 +75,10 @@ MARKS = {
     "restarted": ("play", GREEN, "a provider starts again"),
     "book": ("pages", SKY, "a sender's book"),
     "mailbox": ("pages", SKY, "a mailbox"),
+    "vault": ("pages", SKY, "an archive"),
+    "archived": ("pages", GREEN, "an item goes to the archive"),
+    "upgraded": ("play", BLUE, "a journal is raised to version 2"),
+    "screened": ("again", BLUE, "a screen is replaced"),
     "http": ("pages", SKY, "a connection is served"),
 } | {word: ("bars", RED, "the run ends") for word in ("usage", "refused", "not-empty", "not-fit", "too-long")}
 REFUSED = ("bars", RED, "nothing comes of it")
@@ -83,9 +87,9 @@ REFUSALS = {
     "decided": ("lozenge", RED, "can't place a message"),
     "learned": ("struck", RED, "hears of a refusal, and the sender does"),
 }
-# rows of books and mailboxes; the end of a round has no mark, and what is sent an arrow
+# rows of books, mailboxes and archives; the end of a round has no mark, and what is sent an arrow
 ROW = ("dash", GREY, "")
-ITEM = ("pages", SKY, "an item of a mailbox, in base64")
+ITEM = ("pages", SKY, "an item of a mailbox or an archive, in base64")
 
 
 @dataclass(frozen=True)

@@ -7,7 +7,7 @@ mod words;
 use pec_doors::{SystemTicks, TcpDoor};
 use pec_files::{FileDepot, Input, Output};
 use pec_top::{Status, run_pec};
-use screening::screens;
+use screening::{screens, spares};
 use std::io;
 use std::process::ExitCode;
 use std::time::Duration;
@@ -30,6 +30,9 @@ fn main(rt: HostRuntime) -> ExitCode {
     let Ok(screens) = screens(rt.alloc()) else {
         return ExitCode::from(Status::NoMemory.code());
     };
+    let Ok(spares) = spares(rt.alloc()) else {
+        return ExitCode::from(Status::NoMemory.code());
+    };
     let mut depot = FileDepot::new(&rt, folder);
     let mut ticks = SystemTicks::new(&rt);
     let mut door = TcpDoor::new(&rt, PORT, Duration::from_secs(PATIENCE));
@@ -45,6 +48,7 @@ fn main(rt: HostRuntime) -> ExitCode {
         &mut ticks,
         &mut door,
         screens,
+        spares,
     );
     ExitCode::from(status.code())
 }

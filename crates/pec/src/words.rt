@@ -40,7 +40,7 @@ fn word<R: Env>(rt: &R, alloc: Global, place: usize) -> Result<Option<String>, A
 #[cfg(test)]
 mod tests {
     use super::*;
-    use crate::screening::screens;
+    use crate::screening::{screens, spares};
     use pec_outside::{MemDepot, MemDoor, MemSink, MemSource, MemTicks};
     use pec_top::{Status, run_pec};
     use pec_types::Moment;
@@ -124,6 +124,7 @@ mod tests {
                 &mut ticks,
                 &mut door,
                 screens(rt.alloc())?,
+                spares(rt.alloc())?,
             );
             assert_eq!(rt; ran, status, "at {word:?}");
         }

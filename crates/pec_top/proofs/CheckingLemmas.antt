@@ -35,7 +35,7 @@ use Rattle.pec_top.specs.declared.ending.Stop.{Stop}
 use Rattle.pec_top.specs.declared.ending.Stop.TheVariants as stops
 use Rattle.pec_top.proofs.EndLemmas.{halted_told}
 use Rattle.pec_top.proofs.FlowLemmas.{followed_by-nil}
-use Rattle.pec_top.proofs.RunningLemmas.{parts_are, parts_there}
+use Rattle.pec_top.proofs.RunningLemmas.{no_hands, parts_are, parts_there}
 
 -- ---- how lines ended
 
@@ -104,7 +104,7 @@ told_none providers = refl
 
 -- words of a form that plays a script
 abbrev a_script : Asked
-a_script = record { words = codes "run" ∷ []; finds = λ provider message. false }
+a_script = record { words = codes "run" ∷ []; screens = []; spares = [] }
 
 is_script : form_in a_script.words ≡ Some Run
 is_script = refl
@@ -113,7 +113,7 @@ same_over : (one end : RunEnd) → Over one ≡ Over end → one ≡ end
 same_over one end e = cc
 
 -- an input that ends a run that plays a script ends this one
-had_over : (parts : Parts) (end : RunEnd) → stage_of a_script false parts ≡ Over end → dossier_in parts ≡ Err end
+had_over : (parts : Parts) (end : RunEnd) → stage_of a_script no_hands false parts ≡ Over end → dossier_in parts ≡ Err end
 unfolding stage_of dossier_in
 had_over parts end = by_length (nat_lt LONGEST_DIRECTORY (length parts.directory))
   where
@@ -121,17 +121,17 @@ had_over parts end = by_length (nat_lt LONGEST_DIRECTORY (length parts.directory
     long = Err ends.LongDirectory
 
     by_read : (lines : List Bytes) (read : Result (List Provider) Refusal)
-        → runs.by_directory a_script.finds Run lines read ≡ Over end → by_directory lines read ≡ Err end
+        → runs.by_directory no_hands Run lines read ≡ Over end → by_directory lines read ≡ Err end
     by_read lines (Err why) e = ap (λ (one : RunEnd). (let r : Had = Err one in r)) (same_over (ends.DirectoryRefused why) end e)
     by_read lines (Ok providers) e = cc
 
-    by_script : (script : Option (List Bytes)) → runs.by_script a_script.finds Run parts.directory script ≡ Over end
+    by_script : (script : Option (List Bytes)) → runs.by_script no_hands Run parts.directory script ≡ Over end
         → by_lines parts.directory script ≡ Err end
     by_script None e = ap (λ (one : RunEnd). (let r : Had = Err one in r)) (same_over ends.NoScript end e)
     by_script (Some lines) e = by_read lines (directory_in parts.directory) e
 
     by_length : (b : Bool)
-        → (if b then Over ends.LongDirectory else runs.by_script a_script.finds Run parts.directory parts.script) ≡ Over end
+        → (if b then Over ends.LongDirectory else runs.by_script no_hands Run parts.directory parts.script) ≡ Over end
         → (if b then long else by_lines parts.directory parts.script) ≡ Err end
     by_length true e = ap (λ (one : RunEnd). (let r : Had = Err one in r)) (same_over ends.LongDirectory end e)
     by_length false e = by_script parts.script e
@@ -161,7 +161,7 @@ module _ (status : Status) (before after : Option Bytes) where
     parts = over.parts;
     stopped = None;
     input = over.input;
-    told = subst (Told None) (sym (had_over over.parts over.end (over.stage a_script Run is_script))) told;
+    told = subst (Told None) (sym (had_over over.parts over.end (over.stage a_script no_hands Run is_script))) told;
   }
 
   -- It is one, of these providers.

@@ -16,7 +16,7 @@ use Rattle.pec_dossier.specs.Exports.{Exported, by_reading, export_finish, expor
 use Rattle.pec_service.specs.Runs.{Begins, Over, by_directory, stage_of}
 use Rattle.pec_top.proofs.HostingLemmas.{text_there}
 
-abbrev Had : Type 0
+abbrev pub Had : Type 0
 Had = Result (List Provider) Finish
 
 abbrev ended : Finish → Had
@@ -25,11 +25,11 @@ ended finish = Err finish
 abbrev was_read : List Provider → Result (List Provider) Refusal
 was_read providers = Ok providers
 
-had_stopped : (bytes : Bytes) → providers_had true bytes ≡ ended plays.Stops
+pub had_stopped : (bytes : Bytes) → providers_had true bytes ≡ ended plays.Stops
 unfolding providers_had
 had_stopped bytes = refl
 
-had_read : (bytes : Bytes) → length bytes ≤ LONGEST_DIRECTORY → (providers : List Provider)
+pub had_read : (bytes : Bytes) → length bytes ≤ LONGEST_DIRECTORY → (providers : List Provider)
     → directory_in bytes ≡ was_read providers → providers_had false bytes ≡ by_reading (was_read providers)
 unfolding providers_had
 had_read bytes short providers reads =
@@ -38,7 +38,7 @@ had_read bytes short providers reads =
     ∙ ap by_reading reads
 
 -- where a run that serves is over so is this one
-had_over : (bytes : Bytes) (end : End) → stage_of false bytes ≡ Over end
+pub had_over : (bytes : Bytes) (end : End) → stage_of false bytes ≡ Over end
     → providers_had false bytes ≡ ended (plays.Ends end)
 unfolding stage_of providers_had
 had_over bytes end = so (nat_lt LONGEST_DIRECTORY (length bytes)) (directory_in bytes)

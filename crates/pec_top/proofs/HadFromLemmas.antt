@@ -100,7 +100,7 @@ had_rest {D} home_tells reads sight form trade home new rest = λ told k was now
 -- ---- all are had
 
 -- the provider of a number whose disk this is
-disk_at : {D : Type 0} (found : Option (ProviderState D)) (disk : D)
+pub disk_at : {D : Type 0} (found : Option (ProviderState D)) (disk : D)
     → option_map (λ (one : ChronicleState D). one.disk) (option_map (λ (p : ProviderState D). p.chronicle) found)
     ≡ Some disk
     → (x : ProviderState D) × (found ≡ Some x) × (x.chronicle.disk ≡ disk)

@@ -13,7 +13,6 @@ use Rattle.pec_runs.specs.Endings.{End, end_text}
 use Rattle.pec_runs.specs.Endings as ends
 use Rattle.pec_runs.specs.Happened.{IsSetting, Setting, providers_in, trade_in}
 use Rattle.pec_runs.specs.Openings.{AreUntouched, Disks, Form, Next, NoMore, Holds, Unfits, Fails, Stops}
-use Rattle.pec_runs.specs.Plays.{Finish, finish_text}
 use Rattle.pec_runs.specs.Plays as plays
 use Rattle.pec_runs.specs.Ran.{TellsAs}
 use Rattle.pec_runs.specs.Statuses.{Status}

@@ -85,7 +85,7 @@ read_of unread behind bytes short parts (input.Ends text last) refused =
       end = ends.DirectoryRefused refused.0;
       parts = read;
       input = parts_are unread behind bytes lines.0 parts lines.1;
-      stage = λ asked form is. stage_read asked form read is short lines.0 refl (Err refused.0) refused.1;
+      stage = λ asked hands form is. stage_read asked hands form read is short lines.0 refl (Err refused.0) refused.1;
       text_is = λ providers. refused.2 ∙ sym (refused_directory providers refused.0);
       shown = ap end_shown refused.3;
     }

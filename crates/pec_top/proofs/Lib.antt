@@ -2,6 +2,8 @@ pub mod CheckingLemmas
 pub mod CountLemmas
 pub mod EndLemmas
 pub mod ExportingLemmas
+pub mod ExtractEndLemmas
+pub mod ExtractingLemmas
 pub mod FlowLemmas
 pub mod HadFromLemmas
 pub mod HadLemmas

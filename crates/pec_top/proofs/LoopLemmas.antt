@@ -15,7 +15,7 @@ use Rattle.pec_runs.specs.ScriptLines.{PassedOver, Says, command_in, longest_lin
 use Rattle.pec_runs.specs.Statuses.{Status}
 use Rattle.pec_runs.specs.Statuses as statuses
 use Rattle.pec_runs.specs.Steps.{Goes, IsWritten, NoMemory, NoneFell, Plays, Point, ReadFault, Stop, WriteFault, stopped_status}
-use Rattle.pec_screen.specs.Screened.{Finds}
+use Rattle.pec_screen.specs.Verdicts.{Patterns}
 use Rattle.pec_script.specs.declared.commands.Command.{Command}
 use Rattle.pec_top.specs.LoopLaws.{LoopLaws}
 use Rattle.pec_top.specs.Saying.{EndsAt, IsSaid}
@@ -31,11 +31,11 @@ none_left : (unread : Option Bytes) → IsAtEnd unread → AreLinesLeft unread [
 none_left None over = tt
 none_left (Some text) over = sym (ap raw_lines over)
 
-module _ {D : Type 0} {tells : Type 0} {sight : D → Sight} {trade : Trade} {finds : Finds} {providers : List Provider}
-    {first here : LinePoint D} (came : Reads trade finds providers tells sight first here)
-    (laws : LoopLaws D tells sight trade finds providers) where
+module _ {D : Type 0} {tells : Type 0} {sight : D → Sight} {trade : Trade} {providers : List Provider}
+    {first here : LinePoint D} (came : Reads trade providers tells sight first here)
+    (laws : LoopLaws D tells sight trade providers) where
   abbrev ReadTo : Point D → Status → Type 0
-  ReadTo there status = IsRead trade finds providers tells sight first there status
+  ReadTo there status = IsRead trade providers tells sight first there status
 
   -- memory ran out, or the input failed
   pub lacks_here : ReadTo here.point statuses.NoMemory
@@ -50,49 +50,50 @@ module _ {D : Type 0} {tells : Type 0} {sight : D → Sight} {trade : Trade} {fi
     WasFound what = IsFound longest_line what line here.unread behind
 
     -- what is found is a line where the script goes on
-    pub passes : (what : Found) → WasFound what → IsSaid finds providers here.number what line said.Nothing
-        → Reads trade finds providers tells sight first (behind_line here here.point behind)
-    passes found.End told says = absurd says
-    passes found.Line told says =
-        laws.on first here here.point line PassedOver behind says tt (line_read here.unread line behind told.2)
+    pub passes : (spare : Option Patterns) (what : Found) → WasFound what
+        → IsSaid providers here.number spare what line said.Nothing
+        → Reads trade providers tells sight first (behind_line here here.point behind)
+    passes spare found.End told says = absurd says
+    passes spare found.Line told says =
+        laws.on first here here.point spare line PassedOver behind says tt (line_read here.unread line behind told.2)
         (tells_on here.unread line behind told.2) (laws.nowhere here.point) came
-    passes found.Long told says =
+    passes spare found.Long told says =
         let long = long_there laws.content longest_line here.unread told
         in absurd (says long.line long.lines long.long)
 
-    pub plays : (what : Found) → WasFound what → (command : Command)
-        → IsSaid finds providers here.number what line (said.Command command) → (there : Point D)
-        → Goes trade providers tells sight (Plays (command_in finds command) ∷ []) here.point there None
-        → Reads trade finds providers tells sight first (behind_line here there behind)
-    plays found.End told command says there goes = absurd says
-    plays found.Line told command says there goes =
-        laws.on first here there line (Says (command_in finds command)) behind says tt
+    pub plays : (spare : Option Patterns) (what : Found) → WasFound what → (command : Command)
+        → IsSaid providers here.number spare what line (said.Command command) → (there : Point D)
+        → Goes trade providers tells sight (Plays (command_in spare command) ∷ []) here.point there None
+        → Reads trade providers tells sight first (behind_line here there behind)
+    plays spare found.End told command says there goes = absurd says
+    plays spare found.Line told command says there goes =
+        laws.on first here there spare line (Says (command_in spare command)) behind says tt
         (line_read here.unread line behind told.2) (tells_on here.unread line behind told.2) goes came
-    plays found.Long told command says there goes =
+    plays spare found.Long told command says there goes =
         let long = long_there laws.content longest_line here.unread told
         in absurd (says long.line long.lines long.long)
 
-    pub stops : (what : Found) → WasFound what → (command : Command)
-        → IsSaid finds providers here.number what line (said.Command command) → (there : Point D) (stop : PlayStop)
-        → Goes trade providers tells sight (Plays (command_in finds command) ∷ []) here.point there
+    pub stops : (spare : Option Patterns) (what : Found) → WasFound what → (command : Command)
+        → IsSaid providers here.number spare what line (said.Command command) → (there : Point D) (stop : PlayStop)
+        → Goes trade providers tells sight (Plays (command_in spare command) ∷ []) here.point there
         (stop_in {T = Unit {0}} (Err stop))
         → ReadTo there (stop_shown (played_stop stop))
-    stops what told command says there stop goes = by_stop stop goes
+    stops spare what told command says there stop goes = by_stop stop goes
       where
         stops_so : (why : Stop) → (what : Found) → WasFound what
-            → IsSaid finds providers here.number what line (said.Command command)
-            → Goes trade providers tells sight (Plays (command_in finds command) ∷ []) here.point there (Some why)
+            → IsSaid providers here.number spare what line (said.Command command)
+            → Goes trade providers tells sight (Plays (command_in spare command) ∷ []) here.point there (Some why)
             → ReadTo there (stopped_status why)
         stops_so why found.End told says goes = absurd says
         stops_so why found.Line told says goes =
-            laws.stopped first here there line (Says (command_in finds command)) behind why says tt
+            laws.stopped first here there spare line (Says (command_in spare command)) behind why says tt
             (line_read here.unread line behind told.2) (tells_on here.unread line behind told.2) goes came
         stops_so why found.Long told says goes =
             let long = long_there laws.content longest_line here.unread told
             in absurd (says long.line long.lines long.long)
 
         by_stop : (stop : PlayStop)
-            → Goes trade providers tells sight (Plays (command_in finds command) ∷ []) here.point there
+            → Goes trade providers tells sight (Plays (command_in spare command) ∷ []) here.point there
             (stop_in {T = Unit {0}} (Err stop))
             → ReadTo there (stop_shown (played_stop stop))
         by_stop play_stops.NoMemory goes = stops_so NoMemory what told says goes
@@ -102,16 +103,16 @@ module _ {D : Type 0} {tells : Type 0} {sight : D → Sight} {trade : Trade} {fi
     pub record EndsHere (text : Bytes) (last : End) : Type 0 where
       pub lines : List Bytes
       pub left : AreLinesLeft here.unread lines
-      pub at : EndsAt finds providers here.number lines text last
+      pub at : EndsAt providers here.number lines text last
 
-    pub ends_here : (what : Found) → WasFound what → (text : Vec ℕ Global) (last : End)
-        → IsSaid finds providers here.number what line (said.Last text last) → EndsHere text.items last
-    ends_here found.End told text last says =
+    pub ends_here : (spare : Option Patterns) (what : Found) → WasFound what → (text : Vec ℕ Global) (last : End)
+        → IsSaid providers here.number spare what line (said.Last text last) → EndsHere text.items last
+    ends_here spare found.End told text last says =
         record { lines = []; left = none_left here.unread told.1; at = says }
-    ends_here found.Line told text last says =
+    ends_here spare found.Line told text last says =
         let more = line_there here.unread line behind told.2
         in record { lines = line ∷ more.0; left = more.1; at = says more.0 }
-    ends_here found.Long told text last says =
+    ends_here spare found.Long told text last says =
         let long = long_there laws.content longest_line here.unread told
         in record { lines = long.line ∷ long.lines; left = long.left; at = says long.line long.lines long.long }
 

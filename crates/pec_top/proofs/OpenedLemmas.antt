@@ -11,6 +11,7 @@ use Rattle.pec_directory.specs.Directory.{Kept, providers_of}
 use Rattle.pec_records.specs.declared.entries.Entry.{Entry}
 use Rattle.pec_ledger.specs.OfDirectory.{IsOf}
 use Rattle.pec_ledger.specs.Trade.{Trade}
+use Rattle.pec_screen.specs.Verdicts.{Patterns}
 use Rattle.pec_seal.specs.Seals.{Seals}
 use Rattle.pec_serving.specs.OfNetworks.{AllAt, AllBegun, BlamesDisk, IsAbout, IsLeft as LeftAt, IsRefused, NetworkState}
 use Rattle.pec_serving.specs.OfNetworks.{NoneFell, ProviderState, StartFault, all_rested, journals_had, sites, trade_of}
@@ -56,15 +57,15 @@ pub record Known {D S : Type 0} (tells reads : Type 0) (sight : D → Sight) (se
   pub begun : AllBegun tells reads sight kept (way_of form) looked providers
 
 pub opened_so : {D S : Type 0} (tells reads : Type 0) (sight : D → Sight) (seals : S → Seals) (count : D → ℕ)
-    (how : Journals) (form : Form) (home looked left : ℕ → Option D) (last mid later : ℕ → ℕ) (network : NetworkState D S)
+    (screens : List (List Patterns)) (how : Journals) (form : Form) (home looked left : ℕ → Option D) (last mid later : ℕ → ℕ) (network : NetworkState D S)
     → Known tells reads sight seals how form home looked network.providers network.kept network.sealer
     → (tells → AreAsTheyWere reads sight home looked)
     → (reads → (disk : D) → (sight disk).may_leave (sight disk).seen) → CountsNow reads sight
-    → sites network ≡ all_rested (journals_had network.providers)
+    → sites network ≡ all_rested screens (journals_had network.providers)
     → (tells → AllAt (λ (p : ProviderState D). None) looked left network.providers)
     → NoneFell count mid network.providers → Alike mid later → ((k : ℕ) → last k ≤ mid k)
-    → IsOpened tells reads sight seals count how home left last later network
-opened_so {D} {S} tells reads sight seals count how form home looked left last mid later network known rest reads_so counts_now rests
+    → IsOpened tells reads sight seals count screens how home left last later network
+opened_so {D} {S} tells reads sight seals count screens how form home looked left last mid later network known rest reads_so counts_now rests
     out
     fell alike sooner =
     let kept = network.kept
@@ -82,7 +83,7 @@ opened_so {D} {S} tells reads sight seals count how form home looked left last m
           (record { journals = journals; next = NoMore })
           (opening_whole tells reads sight kept (seals network.sealer) known.of looked form network.providers known.count
           known.begun);
-      begins = begins_so world journals (sites network) (size ∙ sym many) rests;
+      begins = begins_so world screens journals (sites network) (size ∙ sym many) rests;
       stands = λ told k other within. (known.begun k other within).stands told.1;
       had = all_since tells reads sight counts_now (form_shown form) world home looked (disks_of network.providers) rest
           (all_begun tells reads sight kept (seals network.sealer) looked form network.providers known.begun);
@@ -142,7 +143,7 @@ none_came fault next (inr x) e = fails (sym x.0 ∙ e)
 module _ {D : Type 0} (home_tells reads : Type 0) (sight : D → Sight) (kept : List Kept) (seals : Seals)
     (of : IsOf kept (trade_of kept seals)) (home mid new : ℕ → Option D) (form : Form) (fault : StartFault)
     (refused : IsRefused home_tells reads sight kept (way_of form) home mid fault)
-    (reads_so : reads → (disk : D) → (sight disk).may_leave (sight disk).seen)
+    (screens : List (List Patterns)) (reads_so : reads → (disk : D) → (sight disk).may_leave (sight disk).seen)
     (rest : home_tells → AreAsTheyWere reads sight mid new) where
   abbrev World : Trade
   World = trade_of kept seals
@@ -173,16 +174,16 @@ module _ {D : Type 0} (home_tells reads : Type 0) (sight : D → Sight) (kept : 
       (opening_part home_tells reads sight kept seals of home form mid fault refused Stops (inr refl)))
 
   abbrev LeftIn : Form → Next → Type 0
-  LeftIn way next = AreLeft Old Mid (form_shown way) (record { journals = Had; next = next }) (opened_all World Had)
+  LeftIn way next = AreLeft Old Mid (form_shown way) (record { journals = Had; next = next }) (opened_all World screens Had)
 
   leaves : (next : Next) → Came fault next → LeftIn form next
-  leaves next (inl which) = left_part home_tells reads sight kept seals of home form mid fault refused reads_so next which
+  leaves next (inl which) = left_part home_tells reads sight kept seals of home form mid fault refused screens reads_so next which
   leaves next (inr x) =
       let opened = unfit_opens form fault me refused.about x.1
-      in let stopped = left_part home_tells reads sight kept seals of home form mid fault refused reads_so Stops (inr refl)
+      in let stopped = left_part home_tells reads sight kept seals of home form mid fault refused screens reads_so Stops (inr refl)
       in subst (LeftIn form) (sym x.0)
       (subst (λ (way : Form). LeftIn way Fails) (sym opened)
-      (left_failing Old Mid Had (opened_all World Had) (subst (λ (way : Form). LeftIn way Stops) opened stopped)))
+      (left_failing Old Mid Had (opened_all World screens Had) (subst (λ (way : Form). LeftIn way Stops) opened stopped)))
 
   mid_reads : IsUnfit fault → (bytes : Bytes) → Old.reads (length Had) bytes → Mid.reads (provider_named me fault) bytes
   mid_reads unfit bytes read =
@@ -228,16 +229,16 @@ held_since journals.Chosen old mid on number holds Stops held = tt
 
 -- Disks were looked at, from those at home; the network didn't begin; and a disk was looked at again.
 pub refused_at : {D : Type 0} (tells reads : Type 0) (sight : D → Sight) (kept : List Kept) (seals : Seals)
-    (of : IsOf kept (trade_of kept seals)) (how : Journals) (home looked mid new : ℕ → Option D) (form : Form)
-    (fault : StartFault) (refusal : Refusal) (refused : IsRefused tells reads sight kept (way_of form) looked mid fault)
+    (of : IsOf kept (trade_of kept seals)) (screens : List (List Patterns)) (how : Journals)
+    (home looked mid new : ℕ → Option D) (form : Form) (fault : StartFault) (refusal : Refusal) (refused : IsRefused tells reads sight kept (way_of form) looked mid fault)
     → (reads → (disk : D) → (sight disk).may_leave (sight disk).seen) → CountsNow reads sight
     → (tells → AreAsTheyWere reads sight home looked) → (tells → AreAsTheyWere reads sight mid new)
     → IsFormOf (disks_at (tells × reads) sight home) (length kept) how (form_shown form)
     → IsSetting (providers_of kept) (record { kept = kept; seals = seals })
     → IsRefusedSo how (providers_of kept) fault (disks_at (tells × reads) sight mid) refusal
-    → IsRefusedAt how (record { kept = kept; seals = seals }) (providers_of kept) (disks_at (tells × reads) sight home)
+    → IsRefusedAt how screens (record { kept = kept; seals = seals }) (providers_of kept) (disks_at (tells × reads) sight home)
     (disks_at (tells × reads) sight new) (λ way trade. AreHadFrom sight (tells × reads) way trade home new) refusal
-refused_at {D} tells reads sight kept seals of how home looked mid new form fault refusal refused reads_so counts_now first again
+refused_at {D} tells reads sight kept seals of screens how home looked mid new form fault refusal refused reads_so counts_now first again
     is_form is_setting so =
     let old : Disks = disks_at (tells × reads) sight home
     in let seen : Disks = disks_at (tells × reads) sight looked
@@ -246,7 +247,7 @@ refused_at {D} tells reads sight kept seals of how home looked mid new form faul
     in let world = trade_of kept seals
     in let journals = journals_had refused.providers
     in let on = reads_on tells reads sight home looked first
-    in let number = named tells reads sight kept seals of looked mid new form fault refused reads_so again
+    in let number = named tells reads sight kept seals of looked mid new form fault refused screens reads_so again
     in record {
       form = form_shown form;
       is_form = is_form;
@@ -255,15 +256,15 @@ refused_at {D} tells reads sight kept seals of how home looked mid new form faul
       some = none_came fault so.next so.is_next;
       holds = so.holds;
       may_hold = held_since how old seen on (length journals) so.holds so.next
-          (held_so tells reads sight kept seals of looked mid new form fault refused reads_so again how so.holds so.next so.is_next
+          (held_so tells reads sight kept seals of looked mid new form fault refused screens reads_so again how so.holds so.next so.is_next
           (so.may_hold (length refused.providers)));
       is_opening = opening_since world old seen on (form_shown form) (record { journals = journals; next = so.next })
-          (opens tells reads sight kept seals of looked mid new form fault refused reads_so again so.next so.is_next);
+          (opens tells reads sight kept seals of looked mid new form fault refused screens reads_so again so.next so.is_next);
       left = left_since old seen now on (leaves_back tells reads sight home looked first) (form_shown form)
-          (record { journals = journals; next = so.next }) (opened_all world journals)
+          (record { journals = journals; next = so.next }) (opened_all world screens journals)
           (left_until seen back now (reads_back tells reads sight mid new again) (leaves_back tells reads sight mid new again)
-          (form_shown form) (record { journals = journals; next = so.next }) (opened_all world journals)
-          (leaves tells reads sight kept seals of looked mid new form fault refused reads_so again so.next so.is_next));
+          (form_shown form) (record { journals = journals; next = so.next }) (opened_all world screens journals)
+          (leaves tells reads sight kept seals of looked mid new form fault refused screens reads_so again so.next so.is_next));
       went = all_until tells reads sight counts_now (form_shown form) world home mid new again
           (all_since tells reads sight counts_now (form_shown form) world home looked mid first
           (all_refused tells reads sight kept seals looked form mid fault refused));
@@ -273,7 +274,7 @@ refused_at {D} tells reads sight kept seals of how home looked mid new form faul
 
 -- ---- blame
 
-risen_over : (a b c d : ℕ) → a ≤ b → b ≤ c → c ≤ d → HasRisen b c → HasRisen a d
+pub risen_over : (a b c d : ℕ) → a ≤ b → b ≤ c → c ≤ d → HasRisen b c → HasRisen a d
 risen_over a b c d first mid last risen = λ low. so low (cases_lt b (2 ^ 64 - 1))
   where
     so : a < 2 ^ 64 - 1 → (b < 2 ^ 64 - 1) ⊎ (2 ^ 64 - 1 ≤ b) → a < d

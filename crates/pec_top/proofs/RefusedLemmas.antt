@@ -3,6 +3,7 @@ use Rattle.std.proofs.Common.{◌≡◌, ◌≢◌, ℕ, ◌<◌, ◌≤◌, ◌
 use Rattle.std.proofs.Common.{arith, length, get_or, Option, Some, None, Ok}
 use Rattle.std.proofs.lemmas.Bool.{cases_eq, cases_lt}
 use Rattle.std.proofs.lemmas.Option.{none-some}
+use Rattle.pec_screen.specs.Verdicts.{Patterns}
 use Rattle.pec_serving.specs.OfNetworks.{ProviderState}
 use Rattle.pec_types.specs.Bytes.{Bytes}
 use Rattle.pec_outside.specs.DiskModel.{Sight}
@@ -31,6 +32,7 @@ use Rattle.pec_top.specs.declared.forms.Form.TheVariants as forms
 use Rattle.pec_top.specs.declared.opening.Journals.TheVariants as journals
 use Rattle.pec_top.specs.declared.opening.Refusal.{Refusal}
 use Rattle.pec_top.proofs.LineReadLemmas.{lines_there}
+use Rattle.pec_top.proofs.RunningLemmas.{no_hands}
 use Rattle.pec_top.proofs.ThroughLemmas.{halted_through, stopped_through}
 
 -- a refusal is of the next provider
@@ -58,11 +60,11 @@ pub not_all : (fault : StartFault) (next : Next) → (next ≡ next_by fault) �
 not_all fault next (inl e) none = next_known fault (sym e ∙ none)
 not_all fault next (inr e) none = stops_known (sym e ∙ none)
 
-module _ (trade : Trade) (providers : List Provider) (opening : Opening) (script : Script) (status : Status) where
+module _ (trade : Trade) (screens : List (List Patterns)) (providers : List Provider) (opening : Opening) (script : Script) (status : Status) where
   tells_next : (before after : Option Bytes) (next : Next) → (next ≡ NoMore → ⊥)
       → TellsAs status before after (finish_text providers (finish_at false (next_of opening) next))
       (finish_at false (next_of opening) next)
-      → Tells providers status before after (by_next trade opening [] Stopped script next)
+      → Tells providers status before after (by_next trade screens opening [] Stopped script next)
   tells_next before after NoMore some told = absurd (some refl)
   tells_next before after Holds some told = inl told
   tells_next before after (Unfits unfit) some told = inl told
@@ -70,8 +72,8 @@ module _ (trade : Trade) (providers : List Provider) (opening : Opening) (script
   tells_next before after Stops some told = inl told
 
   leaves_next : (next : Next) → (next ≡ NoMore → ⊥)
-      → LeavesOff trade (by_next trade opening [] Stopped script next).after
-      (command_in_hand status next Stopped [] script) (opened_all trade opening.journals)
+      → LeavesOff trade (by_next trade screens opening [] Stopped script next).after
+      (command_in_hand status next Stopped [] script) (opened_all trade screens opening.journals)
   leaves_next NoMore some = absurd (some refl)
   leaves_next Holds some = Behind refl
   leaves_next (Unfits unfit) some = Behind refl
@@ -93,7 +95,7 @@ pub ran_unopened : {D : Type 0} (asked : Asked) (way : Form) → form_in asked.w
     (home left : ℕ → Option D) (from upto : ℕ → ℕ) → parts_left unread ≡ parts_behind bytes behind
     → ((providers : List Provider) (finish : Finish) → Finishes providers refusal finish
     → TellsAs status before after (finish_text providers finish) finish)
-    → IsUnopened (journals.As way) kept (disks_at tells sight home) (disks_at tells sight left)
+    → IsUnopened (journals.As way) asked.screens kept (disks_at tells sight home) (disks_at tells sight left)
     (λ form trade. AreHadFrom sight tells form trade home left) refusal
     → RanSoOver tells sight asked status unread before after home left from upto
 ran_unopened asked way is bytes short kept opens refusal status unread behind before after tells sight home left from upto input
@@ -111,11 +113,14 @@ ran_unopened asked way is bytes short kept opens refusal status unread behind be
     in let trade = trade_in setting
     in let providers = providers_of kept
     in let lines = lines_there behind
-    in let script = script_of asked.finds providers 1 lines.0
+    in let script = script_of no_hands providers 1 lines.0
     in let happened : Happened = record {
       parts = record { directory = bytes; script = Some lines.0 };
       early = false;
       setting = setting;
+      screens = asked.screens;
+      spares = asked.spares;
+      hands = no_hands;
       opening = at.opening;
       lucks = [];
       rest = Stopped;
@@ -123,12 +128,12 @@ ran_unopened asked way is bytes short kept opens refusal status unread behind be
     in let finish = subst (λ (h : Bool). Finishes providers refusal (finish_at h (next_of at.opening) at.opening.next))
     at.may_hold at.finishes
     in stopped_through asked at.form (is ∙ ap (λ (f : runs.Form). Some f) (sym at.is_form)) bytes short setting opens at.is_setting
-    tells sight home left from upto lines.0 at.opening [] Stopped status unread behind before after
-    (opened_all trade at.opening.journals) input lines.1 at.is_opening
+    tells sight home left from upto no_hands lines.0 at.opening [] Stopped status unread behind before after
+    (opened_all trade asked.screens at.opening.journals) input lines.1 at.is_opening
     (plays_next tells (disks_at tells sight home) (disks_at tells sight left) (disk_counts from) (disk_counts upto) happened
     script at.opening.next at.some)
-    (leaves_next trade providers at.opening script status at.opening.next at.some) at.left
-    (tells_next trade providers at.opening script status before after at.opening.next at.some
+    (leaves_next trade asked.screens providers at.opening script status at.opening.next at.some) at.left
+    (tells_next trade asked.screens providers at.opening script status before after at.opening.next at.some
     (told providers (finish_at false (next_of at.opening) at.opening.next) finish)) at.some at.went
 
 -- each disk that was at home is at home again

@@ -62,11 +62,12 @@ pub script_told : {D : Type 0} (asked : Asked) (form : Form) (is : form_in asked
     (reads : directory_in bytes ≡ Ok (providers_in setting)) (is_setting : IsSetting (providers_in setting) setting)
     (tells : Type 0) (sight : D → Sight) (home left : ℕ → Option D) (from upto : ℕ → ℕ) (journals : List (List Entry))
     (status : Status) (unread behind : Option Bytes) (point there : Point D)
-    (begins : point.state.sites ≡ opened_all (trade_in setting) journals)
+    (begins : point.state.sites ≡ opened_all (trade_in setting) asked.screens journals)
+    (spares : point.state.spares ≡ asked.spares)
     (since : (k : ℕ) → from k ≤ point.state.counts k) (later : (k : ℕ) → there.state.counts k ≤ upto k)
     (input : parts_left unread ≡ parts_behind bytes behind)
     (opens : IsOpening (trade_in setting) (disks_at tells sight home) form (record { journals = journals; next = NoMore }))
-    (read : IsRead (trade_in setting) asked.finds (providers_in setting) tells sight (at_first point behind) there status)
+    (read : IsRead (trade_in setting) (providers_in setting) tells sight (at_first point behind) there status)
     (leaves : (stands : List Site) → (tells → stands ≡ there.state.sites)
     → AreLeft (disks_at tells sight home) (disks_at tells sight left) form
     (record { journals = journals; next = NoMore }) stands)
@@ -78,17 +79,18 @@ pub script_told : {D : Type 0} (asked : Asked) (form : Form) (is : form_in asked
     → RanReporting tells sight asked status unread point.held there.held home left from upto report told
 unfolding script_through ran_script ran_begun
 script_told asked form is bytes short setting reads is_setting tells sight home left from upto journals status unread behind
-    point there begins since later input opens read leaves seen stand had kept report told says = record {
+    point there begins spares since later input opens read leaves seen stand had kept report told says = record {
       ran = script_through asked form is bytes short setting reads is_setting tells sight home left from upto journals status
-          unread behind point there begins since later input opens read leaves seen stand had kept;
+          unread behind point there begins spares since later input opens read leaves seen stand had kept;
       reported = λ done on.
           let trade = trade_in setting
           in let played = read.played
           in let lucks = lucks_in played.steps
-          in let script = script_of asked.finds (providers_in setting) 1 read.lines
-          in let after = (outcome_from trade lucks played.rest (opened_all trade journals) script).after
+          in let script = script_of read.hands (providers_in setting) 1 read.lines
+          in let after = (outcome_from trade lucks played.rest (opened_all trade asked.screens journals) script).after
           in let opening : Opening = record { journals = journals; next = NoMore }
-          in let comes = outcome_so asked form is bytes short setting reads is_setting read.lines opening lucks played.rest
+          in let comes = outcome_so asked form is bytes short setting reads is_setting read.hands read.lines opening lucks
+          played.rest
           in let stays = played.stays (on_its_way lucks played.rest script
           (λ e. on (ap (λ (o : Outcome). o.finish) comes ∙ e)))
           in let in_hand = command_in_hand status NoMore played.rest lucks script

@@ -26,7 +26,7 @@ use Rattle.pec_runs.specs.Plays.{Outcome, Rest, Stopped}
 use Rattle.pec_runs.specs.Plays as plays
 use Rattle.pec_runs.specs.Ran.{Blames, Counts, IsAt, IsInput, LeavesOff, NoneFell, PlaysOn, Ran, Tells, TellsAs}
 use Rattle.pec_runs.specs.Ran.{command_in_hand}
-use Rattle.pec_runs.specs.ScriptLines.{Script, script_of}
+use Rattle.pec_runs.specs.ScriptLines.{Hands, Script, script_of}
 use Rattle.pec_runs.specs.Statuses.{Status}
 use Rattle.pec_top.specs.Running.{RanSo, disk_counts, parts_behind}
 
@@ -68,11 +68,18 @@ parts_there (Some text) = (_, refl)
 abbrev pub nobody : Setting
 nobody = record { kept = []; seals = hmac_seals [] [] }
 
-abbrev nothing : Parts → Bool → Happened
-nothing parts early = record {
+-- no line found a spare at hand
+abbrev pub no_hands : Hands
+no_hands = λ line. None
+
+abbrev nothing : Asked → Parts → Bool → Happened
+nothing asked parts early = record {
   parts = parts;
   early = early;
   setting = nobody;
+  screens = asked.screens;
+  spares = asked.spares;
+  hands = no_hands;
   opening = record { journals = []; next = Stops };
   lucks = [];
   rest = Stopped;
@@ -88,18 +95,20 @@ module _ (asked : Asked) (unread before after : Option Bytes) (tells : Type 0) (
     (from upto : ℕ → ℕ) (untouched_ : AreUntouched old new) where
   -- It is over.
   unfoldable pub ran_over : (parts : Parts) (early : Bool) (end : End) (status : Status)
-      → stage_of asked early parts ≡ Over end → IsInput unread parts
+      → stage_of asked no_hands early parts ≡ Over end → IsInput unread parts
       → TellsAs status before after (end_text [] end) (plays.Ends end)
       → RanSo asked status unread before after tells old new from upto
   unfolding outcome_of
   ran_over parts early end status stage input told = record {
-    happened = nothing parts early;
+    happened = nothing asked parts early;
+    given = record { screens = refl; spares = refl };
     input = input;
     setting = λ form script begun. absurd (over_not_begun end form script (sym stage ∙ begun));
     told = inl (subst
-        (λ (s : Stage). TellsAs status before after (plays.outcome_text [] (outcome_at (nothing parts early) s))
-        (outcome_at (nothing parts early) s).finish) (sym stage) told);
-    is_at = subst (λ (s : Stage). IsAt tells old new (disk_counts from) (disk_counts upto) (nothing parts early)
+        (λ (s : Stage). TellsAs status before after (plays.outcome_text [] (outcome_at (nothing asked parts early) s))
+        (outcome_at (nothing asked parts early) s).finish) (sym stage) told);
+    is_at = subst (λ (s : Stage). IsAt tells old new (disk_counts from) (disk_counts upto)
+        (nothing asked parts early)
         status
         asked s) (sym stage) untouched_;
   }
@@ -110,51 +119,52 @@ module _ (asked : Asked) (unread before after : Option Bytes) (tells : Type 0) (
   unfolding outcome_of stage_of
   ran_halted form status is told =
       let parts = parts_there unread
-      in let stage : stage_of asked true parts.0 ≡ Halted = ap (by_form asked.finds true parts.0) is
+      in let stage : stage_of asked no_hands true parts.0 ≡ Halted = ap (by_form no_hands true parts.0) is
       in record {
-        happened = nothing parts.0 true;
+        happened = nothing asked parts.0 true;
+        given = record { screens = refl; spares = refl };
         input = parts.1;
         setting = λ f script begun. absurd (halted_not_begun f script (sym stage ∙ begun));
         told = inl (subst
-            (λ (s : Stage). TellsAs status before after (plays.outcome_text [] (outcome_at (nothing parts.0 true) s))
-            (outcome_at (nothing parts.0 true) s).finish) (sym stage) told);
+            (λ (s : Stage). TellsAs status before after (plays.outcome_text [] (outcome_at (nothing asked parts.0 true) s))
+            (outcome_at (nothing asked parts.0 true) s).finish) (sym stage) told);
         is_at = subst (λ (s : Stage). IsAt tells old new (disk_counts from) (disk_counts upto)
-            (nothing parts.0 true) status asked s) (sym stage) untouched_;
+            (nothing asked parts.0 true) status asked s) (sym stage) untouched_;
       }
 
 -- ---- stages
 
-pub stage_usage : (asked : Asked) (early : Bool) (parts : Parts) → form_in asked.words ≡ None
-    → stage_of asked early parts ≡ Over ends.Usage
+pub stage_usage : (asked : Asked) (hands : Hands) (early : Bool) (parts : Parts) → form_in asked.words ≡ None
+    → stage_of asked hands early parts ≡ Over ends.Usage
 unfolding stage_of
-stage_usage asked false parts is = ap (by_form asked.finds false parts) is
-stage_usage asked true parts is = ap (by_form asked.finds true parts) is
+stage_usage asked hands false parts is = ap (by_form hands false parts) is
+stage_usage asked hands true parts is = ap (by_form hands true parts) is
 
-module _ (asked : Asked) (form : Form) (parts : Parts) (is : form_in asked.words ≡ Some form) where
-  pub stage_long : LONGEST_DIRECTORY < length parts.directory → stage_of asked false parts ≡ Over ends.LongDirectory
+module _ (asked : Asked) (hands : Hands) (form : Form) (parts : Parts) (is : form_in asked.words ≡ Some form) where
+  pub stage_long : LONGEST_DIRECTORY < length parts.directory → stage_of asked hands false parts ≡ Over ends.LongDirectory
   unfolding stage_of
   stage_long long =
-      ap (by_form asked.finds false parts) is
-      ∙ ap (λ (t : Bool). if t then Over ends.LongDirectory else by_script asked.finds form parts.directory parts.script)
+      ap (by_form hands false parts) is
+      ∙ ap (λ (t : Bool). if t then Over ends.LongDirectory else by_script hands form parts.directory parts.script)
       (lt-ltb LONGEST_DIRECTORY (length parts.directory) long)
 
   stage_short : length parts.directory ≤ LONGEST_DIRECTORY
-      → stage_of asked false parts ≡ by_script asked.finds form parts.directory parts.script
+      → stage_of asked hands false parts ≡ by_script hands form parts.directory parts.script
   unfolding stage_of
   stage_short short =
-      ap (by_form asked.finds false parts) is
-      ∙ ap (λ (t : Bool). if t then Over ends.LongDirectory else by_script asked.finds form parts.directory parts.script)
+      ap (by_form hands false parts) is
+      ∙ ap (λ (t : Bool). if t then Over ends.LongDirectory else by_script hands form parts.directory parts.script)
       (le-ltb LONGEST_DIRECTORY (length parts.directory) short)
 
   pub stage_unmarked : length parts.directory ≤ LONGEST_DIRECTORY → parts.script ≡ None
-      → stage_of asked false parts ≡ Over ends.NoScript
-  stage_unmarked short none = stage_short short ∙ ap (by_script asked.finds form parts.directory) none
+      → stage_of asked hands false parts ≡ Over ends.NoScript
+  stage_unmarked short none = stage_short short ∙ ap (by_script hands form parts.directory) none
 
   pub stage_read : length parts.directory ≤ LONGEST_DIRECTORY → (lines : List Bytes) → parts.script ≡ Some lines
       → (told : Result (List Provider) Refusal) → directory_in parts.directory ≡ told
-      → stage_of asked false parts ≡ by_directory asked.finds form lines told
+      → stage_of asked hands false parts ≡ by_directory hands form lines told
   stage_read short lines some told reads =
-      stage_short short ∙ (ap (by_script asked.finds form parts.directory) some ∙ ap (by_directory asked.finds form lines) reads)
+      stage_short short ∙ (ap (by_script hands form parts.directory) some ∙ ap (by_directory hands form lines) reads)
 
 -- the parts of an input whose directory was read
 pub parts_are : (unread behind : Option Bytes) (bytes : Bytes) (lines : List Bytes)
@@ -180,22 +190,31 @@ same_ok told a b e f = cc
 module _ (asked : Asked) (form : Form) (is : form_in asked.words ≡ Some form) (bytes : Bytes)
     (short : length bytes ≤ LONGEST_DIRECTORY) (setting : Setting)
     (reads : directory_in bytes ≡ Ok (providers_in setting)) (is_setting : IsSetting (providers_in setting) setting)
-    (lines : List Bytes) (opening : Opening) (lucks : List Luck) (rest : Rest) where
+    (hands : Hands) (lines : List Bytes) (opening : Opening) (lucks : List Luck) (rest : Rest) where
   abbrev parts_had : Parts
   parts_had = record { directory = bytes; script = Some lines }
 
   abbrev happened_so : Happened
-  happened_so =
-      record { parts = parts_had; early = false; setting = setting; opening = opening; lucks = lucks; rest = rest }
+  happened_so = record {
+    parts = parts_had;
+    early = false;
+    setting = setting;
+    screens = asked.screens;
+    spares = asked.spares;
+    hands = hands;
+    opening = opening;
+    lucks = lucks;
+    rest = rest;
+  }
 
   abbrev script_had : Script
-  script_had = script_of asked.finds (providers_in setting) 1 lines
+  script_had = script_of hands (providers_in setting) 1 lines
 
   abbrev outcome_had : Outcome
-  outcome_had = by_next (trade_in setting) opening lucks rest script_had opening.next
+  outcome_had = by_next (trade_in setting) asked.screens opening lucks rest script_had opening.next
 
-  pub begun_so : stage_of asked false parts_had ≡ Begun form script_had
-  begun_so = stage_read asked form parts_had is short lines refl (Ok (providers_in setting)) reads
+  pub begun_so : stage_of asked hands false parts_had ≡ Begun form script_had
+  begun_so = stage_read asked hands form parts_had is short lines refl (Ok (providers_in setting)) reads
 
   pub outcome_so : outcome_of asked happened_so ≡ outcome_had
   unfolding outcome_of
@@ -213,6 +232,7 @@ module _ (asked : Asked) (form : Form) (is : form_in asked.words ≡ Some form) 
   ran_begun status unread behind before after tells old new from upto left input lines_left opens plays leaves disks
       told = record {
         happened = happened_so;
+        given = record { screens = refl; spares = refl };
         input = parts_are unread behind bytes lines input lines_left;
         setting = λ f script begun providers read.
             let same = same_ok (directory_in bytes) (providers_in setting) providers reads read
@@ -239,12 +259,13 @@ unfoldable pub ran_whole : (asked : Asked) (status : Status) (unread before afte
     → Ran asked status unread before after tells old_disks new_disks old new
 ran_whole asked status unread before after tells old_disks new_disks old new blames fell so = record {
   happened = so.happened;
+  given = so.given;
   input = so.input;
   setting = so.setting;
   told = so.told;
   blame = blames;
   counts = fell;
-  is_at = at_stage (stage_of asked so.happened.early so.happened.parts) so.is_at;
+  is_at = at_stage (stage_of asked so.happened.hands so.happened.early so.happened.parts) so.is_at;
 }
   where
     at_stage : (stage : Stage)

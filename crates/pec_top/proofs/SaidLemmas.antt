@@ -1,5 +1,5 @@
 -- What a line is, by its number and what it says, and how a script ends at one.
-use Rattle.std.proofs.Common.{◌≡◌, ℕ, ◌+◌, ◌<◌, ◌≤◌, Bool, true, false, List, [], ◌∷◌, inl, inr, refl, ap, ◌∙◌, arith, length}
+use Rattle.std.proofs.Common.{◌≡◌, ℕ, ◌+◌, ◌<◌, ◌≤◌, Bool, true, false, List, [], ◌∷◌, inl, inr, refl, ap, ◌∙◌, arith, length, Option}
 use Rattle.std.proofs.Common.{nat_lt, codes}
 use Rattle.std.specs.Prelude.{if◌then◌else◌}
 use Rattle.std.specs.Fmt.{decimal}
@@ -16,7 +16,7 @@ use Rattle.pec_script.specs.declared.faults.LineFault.{LineFault}
 use Rattle.pec_runs.specs.Endings.{End, end_text}
 use Rattle.pec_runs.specs.Endings as ends
 use Rattle.pec_runs.specs.ScriptLines.{Line, PassedOver, TooLong, TooMany, Script, behind_line, is_passed_over}
-use Rattle.pec_screen.specs.Screened.{Finds}
+use Rattle.pec_screen.specs.Verdicts.{Patterns}
 use Rattle.pec_runs.specs.ScriptLines.{line_by, longest_line, most_lines, nothing_but, said_by, script_of}
 use Rattle.pec_runs.specs.Statuses.{status_of}
 use Rattle.pec_top.specs.Shown.{end_shown}
@@ -26,74 +26,76 @@ use Rattle.pec_top.specs.declared.ending.End.TheVariants as lasts
 
 -- ---- lines
 
-module _ (finds : Finds) (providers : List Provider) (number : ℕ) (line : Bytes) where
+module _ (spare : Option Patterns) (providers : List Provider) (number : ℕ) (line : Bytes) where
   abbrev short_line : Line
   short_line =
-      if is_passed_over (content_of line) then PassedOver else line_by finds (command_of providers (content_of line))
+      if is_passed_over (content_of line) then PassedOver else line_by spare (command_of providers (content_of line))
 
   abbrev numbered_line : Line
   numbered_line = if nat_lt longest_line (length (content_of line)) then TooLong else short_line
 
-  pub said_many : most_lines < number → said_by finds providers number line ≡ TooMany
+  pub said_many : most_lines < number → said_by spare providers number line ≡ TooMany
   unfolding said_by
   said_many many = ap (λ (t : Bool). if t then TooMany else numbered_line) (lt-ltb most_lines number many)
 
-  said_few : number ≤ most_lines → said_by finds providers number line ≡ numbered_line
+  said_few : number ≤ most_lines → said_by spare providers number line ≡ numbered_line
   unfolding said_by
   said_few few = ap (λ (t : Bool). if t then TooMany else numbered_line) (le-ltb most_lines number few)
 
   pub said_long : number ≤ most_lines → longest_line < length (content_of line)
-      → said_by finds providers number line ≡ TooLong
+      → said_by spare providers number line ≡ TooLong
   said_long few long =
       said_few few ∙ ap (λ (t : Bool). if t then TooLong else short_line)
       (lt-ltb longest_line (length (content_of line)) long)
 
   said_short : number ≤ most_lines → length (content_of line) ≤ longest_line
-      → said_by finds providers number line ≡ short_line
+      → said_by spare providers number line ≡ short_line
   said_short few short =
       said_few few ∙ ap (λ (t : Bool). if t then TooLong else short_line)
       (le-ltb longest_line (length (content_of line)) short)
 
   pub said_over : number ≤ most_lines → length (content_of line) ≤ longest_line
-      → is_passed_over (content_of line) ≡ true → said_by finds providers number line ≡ PassedOver
+      → is_passed_over (content_of line) ≡ true → said_by spare providers number line ≡ PassedOver
   said_over few short over =
       said_short few short
-      ∙ ap (λ (t : Bool). if t then PassedOver else line_by finds (command_of providers (content_of line))) over
+      ∙ ap (λ (t : Bool). if t then PassedOver else line_by spare (command_of providers (content_of line))) over
 
   pub said_command : (said : Bytes) → content_of line ≡ said → number ≤ most_lines → length said ≤ longest_line
-      → is_passed_over said ≡ false → said_by finds providers number line ≡ line_by finds (command_of providers said)
+      → is_passed_over said ≡ false → said_by spare providers number line ≡ line_by spare (command_of providers said)
   said_command said is few short some =
       said_short few (let size = ap (λ (b : Bytes). length b) is in omega (arith, size, short))
-      ∙ (ap (λ (t : Bool). if t then PassedOver else line_by finds (command_of providers (content_of line)))
-      (ap is_passed_over is ∙ some) ∙ ap (λ (b : Bytes). line_by finds (command_of providers b)) is)
+      ∙ (ap (λ (t : Bool). if t then PassedOver else line_by spare (command_of providers (content_of line)))
+      (ap is_passed_over is ∙ some) ∙ ap (λ (b : Bytes). line_by spare (command_of providers b)) is)
 
 -- a script that ends at a line
-pub ends_so : (finds : Finds) (providers : List Provider) (number : ℕ) (line : Bytes) (lines : List Bytes) (text : Bytes)
-    (last : Last) (end : End) (what : Line) → said_by finds providers number line ≡ what
+pub ends_so : (providers : List Provider) (number : ℕ) (line : Bytes) (lines : List Bytes) (text : Bytes)
+    (last : Last) (end : End) (what : Line)
+    → ((spare : Option Patterns) → said_by spare providers number line ≡ what)
     → ((script : Script) → behind_line number what script ≡ nothing_but end)
     → text ≡ end_text providers end → end_shown last ≡ status_of end
-    → EndsAt finds providers number (line ∷ lines) text last
-ends_so finds providers number line lines text last end what said ends text_is shown = record {
+    → EndsAt providers number (line ∷ lines) text last
+ends_so providers number line lines text last end what said ends text_is shown = record {
   end = end;
-  script = ap (λ (w : Line). behind_line number w (script_of finds providers (number + 1) lines)) said
-      ∙ ends (script_of finds providers (number + 1) lines);
+  script = λ hands.
+      ap (λ (w : Line). behind_line number w (script_of hands providers (number + 1) lines)) (said (hands number))
+      ∙ ends (script_of hands providers (number + 1) lines);
   text_is = text_is;
   shown = shown;
 }
 
 -- it ends at a line past a limit
-pub past_ends : (finds : Finds) (providers : List Provider) (number : ℕ) (line : Bytes) (lines : List Bytes) (text : Bytes)
+pub past_ends : (providers : List Provider) (number : ℕ) (line : Bytes) (lines : List Bytes) (text : Bytes)
     → (number ≤ most_lines → longest_line < length (content_of line)) → text ≡ end_text providers (end_past number)
-    → EndsAt finds providers number (line ∷ lines) text lasts.TooLong
-past_ends finds providers number line lines text long is = elim (cases_lt most_lines number) [
+    → EndsAt providers number (line ∷ lines) text lasts.TooLong
+past_ends providers number line lines text long is = elim (cases_lt most_lines number) [
   | inl many ↦
-      ends_so finds providers number line lines text lasts.TooLong ends.LongScript TooMany
-      (said_many finds providers number line many) (λ script. refl)
+      ends_so providers number line lines text lasts.TooLong ends.LongScript TooMany
+      (λ spare. said_many spare providers number line many) (λ script. refl)
       (is ∙ ap (λ (past : Bool). end_text providers (if past then ends.LongScript else ends.LongLine number))
       (lt-ltb most_lines number many)) refl
   | inr few ↦
-      ends_so finds providers number line lines text lasts.TooLong (ends.LongLine number) TooLong
-      (said_long finds providers number line few (long few)) (λ script. refl)
+      ends_so providers number line lines text lasts.TooLong (ends.LongLine number) TooLong
+      (λ spare. said_long spare providers number line few (long few)) (λ script. refl)
       (is ∙ ap (λ (past : Bool). end_text providers (if past then ends.LongScript else ends.LongLine number))
       (le-ltb most_lines number few)) refl
 ]

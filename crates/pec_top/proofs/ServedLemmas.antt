@@ -30,10 +30,10 @@ use Rattle.pec_top.proofs.HostingLemmas.{begun_with, goes_next, halts_not, over_
 use Rattle.pec_top.proofs.HostingLemmas.{served_unlooked, stage_halts, stage_read}
 
 module _ {D : Type 0} (tells : Type 0) (sight : D → Sight) (home left : ℕ → Option D) (from upto : ℕ → ℕ)
-    (happened : Happened) where
+    (asked : Asked) (happened : Happened) where
   -- It doesn't begin.
   went_unasked : (stage_of happened.early happened.directory ≡ Begins → ⊥)
-      → AreHadFrom sight tells Resume (world happened) home left → DisksWent tells sight home left from upto happened
+      → AreHadFrom sight tells Resume (world happened) home left → DisksWent tells sight home left from upto asked happened
   went_unasked none had = record {
     unasked = λ same. had;
     unlooked = λ begins is. absurd (none begins);
@@ -44,7 +44,7 @@ module _ {D : Type 0} (tells : Type 0) (sight : D → Sight) (home left : ℕ �
   module _ (begins : stage_of happened.early happened.directory ≡ Begins) where
     -- A disk couldn't be looked at.
     went_unlooked : happened.form ≡ None → AreHadFrom sight tells Resume (world happened) home left
-        → DisksWent tells sight home left from upto happened
+        → DisksWent tells sight home left from upto asked happened
     went_unlooked none had = record {
       unasked = λ not. absurd (not begins);
       unlooked = λ again is. had;
@@ -55,7 +55,7 @@ module _ {D : Type 0} (tells : Type 0) (sight : D → Sight) (home left : ℕ �
     module _ (form : Form) (chosen : happened.form ≡ Some form) where
       -- Not all journals are had.
       went_stopped : (happened.course.opening.next ≡ NoMore → ⊥) → AreHadFrom sight tells form (world happened) home left
-          → DisksWent tells sight home left from upto happened
+          → DisksWent tells sight home left from upto asked happened
       went_stopped some had = record {
         unasked = λ not. absurd (not begins);
         unlooked = λ again none. absurd (none-some form (sym none ∙ chosen));
@@ -67,15 +67,16 @@ module _ {D : Type 0} (tells : Type 0) (sight : D → Sight) (home left : ℕ �
 
       -- Connections are served.
       went_served : happened.course.opening.next ≡ NoMore
-          → MovesThrough tells sight home left from upto (world happened) form happened.course.opening.journals
-          → DisksWent tells sight home left from upto happened
+          → MovesThrough tells sight home left from upto (world happened) form asked.screens
+          happened.course.opening.journals
+          → DisksWent tells sight home left from upto asked happened
       went_served all moves = record {
         unasked = λ not. absurd (not begins);
         unlooked = λ again none. absurd (none-some form (sym none ∙ chosen));
         stopped = λ again way is some. absurd (some all);
         served = λ again way is more.
             subst (λ (f : Form). MovesThrough tells sight home left from upto (world happened) f
-            happened.course.opening.journals) (same_Some form way (sym chosen ∙ is)) moves;
+            asked.screens happened.course.opening.journals) (same_Some form way (sym chosen ∙ is)) moves;
       }
 
 module _ (asked : Asked) (status : Status) (unread before after : Option Bytes) {D : Type 0} (tells : Type 0)
@@ -91,7 +92,7 @@ module _ (asked : Asked) (status : Status) (unread before after : Option Bytes) 
         here there from upto untouched_ same directory end stage input told in
         record {
           so = so;
-          through = went_unasked tells sight home left from upto so.happened
+          through = went_unasked tells sight home left from upto asked so.happened
               (λ begins. over_not end (sym stage ∙ begins)) (had (world so.happened));
         }
 
@@ -103,7 +104,7 @@ module _ (asked : Asked) (status : Status) (unread before after : Option Bytes) 
         here there from upto untouched_ same told in
         record {
           so = so;
-          through = went_unasked tells sight home left from upto so.happened
+          through = went_unasked tells sight home left from upto asked so.happened
               (λ begins. halts_not (sym (stage_halts so.happened.directory) ∙ begins)) (had (world so.happened));
         }
 
@@ -122,7 +123,7 @@ module _ (asked : Asked) (status : Status) (unread before after : Option Bytes) 
         (disks_at tells sight left) here there from upto bytes short setting reads is_setting input untouched_ same told in
         record {
           so = so;
-          through = went_unlooked tells sight home left from upto so.happened begins_so refl (had (world so.happened));
+          through = went_unlooked tells sight home left from upto asked so.happened begins_so refl (had (world so.happened));
         }
 
     module _ (form : Form) (course : Course) (chosen : IsChosen (disks_at tells sight home) (trade_in setting).providers form)
@@ -136,11 +137,11 @@ module _ (asked : Asked) (status : Status) (unread before after : Option Bytes) 
           (disks_at tells sight left) here there from upto bytes short setting reads is_setting input form course chosen had_journals in
           record {
             so = so;
-            through = went_stopped tells sight home left from upto so.happened begins_so form refl some had;
+            through = went_stopped tells sight home left from upto asked so.happened begins_so form refl some had;
           }
 
       pub served_through : course.opening.next ≡ NoMore
-          → MovesThrough tells sight home left from upto (trade_in setting) form course.opening.journals
+          → MovesThrough tells sight home left from upto (trade_in setting) form asked.screens course.opening.journals
           → HasServedOver tells sight asked status unread before after home left here there from upto
       unfolding served_begun begun_with
       served_through all moves =
@@ -148,7 +149,7 @@ module _ (asked : Asked) (status : Status) (unread before after : Option Bytes) 
           (disks_at tells sight left) here there from upto bytes short setting reads is_setting input form course chosen had_journals in
           record {
             so = so;
-            through = went_served tells sight home left from upto so.happened begins_so form refl all moves;
+            through = went_served tells sight home left from upto asked so.happened begins_so form refl all moves;
           }
 
 pub unopened_through : (asked : Asked) (status : Status) (unread before after : Option Bytes) {D : Type 0} (tells : Type 0)
@@ -157,7 +158,7 @@ pub unopened_through : (asked : Asked) (status : Status) (unread before after : 
     → directory_in bytes ≡ Ok (providers_of kept) → IfSome unread (λ text. bytes ≡ text) → (refusal : Shut)
     → ((providers : List Provider) (finish : Finish) → Finishes providers refusal finish
     → TellsAs status before after (finish_text providers finish) finish)
-    → IsUnopened journals.Chosen kept (disks_at tells sight home) (disks_at tells sight left)
+    → IsUnopened journals.Chosen asked.screens kept (disks_at tells sight home) (disks_at tells sight left)
     (λ form trade. AreHadFrom sight tells form trade home left) refusal
     → HasServedOver tells sight asked status unread before after home left here here from upto
 unopened_through asked status unread before after tells sight home left here from upto bytes short kept reads input refusal

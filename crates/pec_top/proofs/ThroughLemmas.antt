@@ -25,7 +25,7 @@ use Rattle.pec_runs.specs.Plays.{Rest}
 use Rattle.pec_runs.specs.Plays as plays
 use Rattle.pec_runs.specs.Ran.{Blames, Counts, IsInput, LeavesOff, NoneFell, PlaysOn, Tells, TellsAs, command_in_hand, world}
 use Rattle.pec_runs.specs.Reading.{AreLinesLeft, IsRead}
-use Rattle.pec_runs.specs.ScriptLines.{Script, script_of}
+use Rattle.pec_runs.specs.ScriptLines.{Hands, Script, script_of}
 use Rattle.pec_runs.specs.Statuses.{Status}
 use Rattle.pec_runs.specs.Steps.{AreSeen, Point}
 use Rattle.pec_runs.specs.Moments.{AllStandIn}
@@ -36,7 +36,7 @@ use Rattle.pec_top.specs.Scripts.{at_first}
 use Rattle.pec_top.specs.Shown.{result_shown}
 use Rattle.pec_top.specs.declared.ending.End.{End as Last}
 use Rattle.pec_top.specs.declared.ending.Stop.{Stop}
-use Rattle.pec_top.proofs.RunningLemmas.{parts_there, ran_begun, ran_halted, ran_over, ran_whole, stage_read}
+use Rattle.pec_top.proofs.RunningLemmas.{no_hands, parts_there, ran_begun, ran_halted, ran_over, ran_whole, stage_read}
 use Rattle.pec_top.proofs.TopLemmas.{blames_result}
 use Rattle.pec_top.proofs.WholeLemmas.{at_home, ran_script, site_is}
 
@@ -55,7 +55,7 @@ one_script a b x y e = cc
 module _ {D : Type 0} (tells : Type 0) (sight : D → Sight) (home left : ℕ → Option D) (from upto : ℕ → ℕ)
     (asked : Asked) (happened : Happened) where
   -- It doesn't begin, and nothing is written on a disk.
-  pub went_unasked : ((form : Form) (script : Script) → stage_of asked happened.early happened.parts ≡ Begun form script → ⊥)
+  pub went_unasked : ((form : Form) (script : Script) → stage_of asked happened.hands happened.early happened.parts ≡ Begun form script → ⊥)
       → AreHadFrom sight tells Resume (world happened) home left → DisksWent tells sight home left from upto asked happened
   went_unasked none had = record {
     unasked = λ same. had;
@@ -63,7 +63,7 @@ module _ {D : Type 0} (tells : Type 0) (sight : D → Sight) (home left : ℕ �
     played = λ form script begun all. absurd (none form script begun);
   }
 
-  module _ (form : Form) (script : Script) (begun : stage_of asked happened.early happened.parts ≡ Begun form script) where
+  module _ (form : Form) (script : Script) (begun : stage_of asked happened.hands happened.early happened.parts ≡ Begun form script) where
     -- Not all journals are had.
     pub went_stopped : (happened.opening.next ≡ NoMore → ⊥) → AreHadFrom sight tells form (world happened) home left
         → DisksWent tells sight home left from upto asked happened
@@ -96,7 +96,7 @@ module _ {D : Type 0} (asked : Asked) (unread before after : Option Bytes) (tell
     (had : (trade : Trade) → AreHadFrom sight tells Resume trade home left) where
   -- It is over.
   pub over_through : (parts : Parts) (early : Bool) (end : End) (status : Status)
-      → stage_of asked early parts ≡ Over end → IsInput unread parts
+      → stage_of asked no_hands early parts ≡ Over end → IsInput unread parts
       → TellsAs status before after (end_text [] end) (plays.Ends end)
       → RanSoOver tells sight asked status unread before after home left from upto
   unfolding ran_over
@@ -121,7 +121,7 @@ module _ {D : Type 0} (asked : Asked) (unread before after : Option Bytes) (tell
         so = so;
         through = went_unasked tells sight home left from upto asked so.happened
             (λ way script begun. halted_not way script
-            (sym (ap (by_form asked.finds true (parts_there unread).0) is) ∙ begun))
+            (sym (ap (by_form no_hands true (parts_there unread).0) is) ∙ begun))
             (had (world so.happened));
       }
 
@@ -131,54 +131,59 @@ module _ (asked : Asked) (form : Form) (is : form_in asked.words ≡ Some form) 
     (short : length bytes ≤ LONGEST_DIRECTORY) (setting : Setting)
     (reads : directory_in bytes ≡ Ok (providers_in setting)) (is_setting : IsSetting (providers_in setting) setting)
     {D : Type 0} (tells : Type 0) (sight : D → Sight) (home left : ℕ → Option D) (from upto : ℕ → ℕ) where
-  abbrev script_had : List Bytes → Script
-  script_had lines = script_of asked.finds (providers_in setting) 1 lines
+  abbrev script_had : Hands → List Bytes → Script
+  script_had hands lines = script_of hands (providers_in setting) 1 lines
 
-  pub begun_had : (lines : List Bytes)
-      → stage_of asked false (record { directory = bytes; script = Some lines }) ≡ Begun form (script_had lines)
-  begun_had lines = stage_read asked form (record { directory = bytes; script = Some lines }) is short lines refl
+  pub begun_had : (hands : Hands) (lines : List Bytes)
+      → stage_of asked hands false (record { directory = bytes; script = Some lines })
+      ≡ Begun form (script_had hands lines)
+  begun_had hands lines = stage_read asked hands form (record { directory = bytes; script = Some lines }) is short lines refl
       (Ok (providers_in setting)) reads
 
   -- Not all journals are had.
-  pub stopped_through : (lines : List Bytes) (opening : Opening) (lucks : List Luck) (rest : Rest) (status : Status)
-      (unread behind before after : Option Bytes) (stands : List Site) → parts_left unread ≡ parts_behind bytes behind
+  pub stopped_through : (hands : Hands) (lines : List Bytes) (opening : Opening) (lucks : List Luck) (rest : Rest)
+      (status : Status) (unread behind before after : Option Bytes) (stands : List Site) → parts_left unread ≡ parts_behind bytes behind
       → AreLinesLeft behind lines → IsOpening (trade_in setting) (disks_at tells sight home) form opening
       → PlaysOn tells (disks_at tells sight home) (disks_at tells sight left) (disk_counts from) (disk_counts upto)
       (record {
         parts = record { directory = bytes; script = Some lines };
         early = false;
         setting = setting;
+        screens = asked.screens;
+        spares = asked.spares;
+        hands = hands;
         opening = opening;
         lucks = lucks;
         rest = rest;
-      }) (script_had lines) opening.next
+      }) (script_had hands lines) opening.next
       → LeavesOff (trade_in setting)
-      (by_next (trade_in setting) opening lucks rest (script_had lines) opening.next).after
-      (command_in_hand status opening.next rest lucks (script_had lines)) stands
+      (by_next (trade_in setting) asked.screens opening lucks rest (script_had hands lines) opening.next).after
+      (command_in_hand status opening.next rest lucks (script_had hands lines)) stands
       → AreLeft (disks_at tells sight home) (disks_at tells sight left) form opening stands
       → Tells (providers_in setting) status before after
-      (by_next (trade_in setting) opening lucks rest (script_had lines) opening.next)
+      (by_next (trade_in setting) asked.screens opening lucks rest (script_had hands lines) opening.next)
       → (opening.next ≡ NoMore → ⊥) → AreHadFrom sight tells form (trade_in setting) home left
       → RanSoOver tells sight asked status unread before after home left from upto
   unfolding ran_begun
-  stopped_through lines opening lucks rest status unread behind before after stands input lines_left opens plays_on leaves
+  stopped_through hands lines opening lucks rest status unread behind before after stands input lines_left opens plays_on leaves
       disks told some had =
-      let so = ran_begun asked form is bytes short setting reads is_setting lines opening lucks rest status unread behind
+      let so = ran_begun asked form is bytes short setting reads is_setting hands lines opening lucks rest status unread behind
       before after tells (disks_at tells sight home) (disks_at tells sight left) from upto stands input lines_left opens
       plays_on leaves disks told in
       record {
         so = so;
-        through = went_stopped tells sight home left from upto asked so.happened form (script_had lines) (begun_had lines)
+        through = went_stopped tells sight home left from upto asked so.happened form (script_had hands lines) (begun_had hands lines)
             some had;
       }
 
   -- All are had, and the script is played from one point to another.
   unfoldable pub script_through : (journals : List (List Entry)) (status : Status) (unread behind : Option Bytes)
-      (point there : Point D) → point.state.sites ≡ opened_all (trade_in setting) journals
+      (point there : Point D) → point.state.sites ≡ opened_all (trade_in setting) asked.screens journals
+      → point.state.spares ≡ asked.spares
       → ((k : ℕ) → from k ≤ point.state.counts k) → ((k : ℕ) → there.state.counts k ≤ upto k)
       → parts_left unread ≡ parts_behind bytes behind
       → IsOpening (trade_in setting) (disks_at tells sight home) form (record { journals = journals; next = NoMore })
-      → IsRead (trade_in setting) asked.finds (providers_in setting) tells sight (at_first point behind) there status
+      → IsRead (trade_in setting) (providers_in setting) tells sight (at_first point behind) there status
       → ((stands : List Site) → (tells → stands ≡ there.state.sites)
       → AreLeft (disks_at tells sight home) (disks_at tells sight left) form
       (record { journals = journals; next = NoMore }) stands)
@@ -188,15 +193,15 @@ module _ (asked : Asked) (form : Form) (is : form_in asked.words ≡ Some form) 
       → (one : ChronicleState D) × (there.state.chronicles provider ≡ Some one) × (left provider ≡ Some one.disk))
       → RanSoOver tells sight asked status unread point.held there.held home left from upto
   unfolding ran_script ran_begun
-  script_through journals status unread behind point there begins since later input opens read leaves seen stand had kept =
+  script_through journals status unread behind point there begins spares since later input opens read leaves seen stand had kept =
       let so = ran_script asked form is bytes short setting reads is_setting journals status unread behind tells sight
-      (disks_at tells sight home) (disks_at tells sight left) from upto point there begins since later input opens read
+      (disks_at tells sight home) (disks_at tells sight left) from upto point there begins spares since later input opens read
       leaves in
       let played = read.played in
       record {
         so = so;
-        through = went_played tells sight home left from upto asked so.happened form (script_had read.lines)
-            (begun_had read.lines) refl
+        through = went_played tells sight home left from upto asked so.happened form (script_had read.hands read.lines)
+            (begun_had read.hands read.lines) refl
             (record {
               goes = record {
                 first = point.state;
@@ -263,7 +268,7 @@ module _ {D S : Type 0} {seals : Seals} (home_tells reads : Type 0) (sight : D �
       let x = one_at (slice_get network.providers k) one e in
       let within = slice_get_within network.providers k x.0 x.1 in
       let same = get_or_from_slice_get network.providers k x.0 x.0 x.1 in
-      let site = site_is network.providers network.waiting k x.0 within (whole.links ∙ sym whole.count) in (
+      let site = site_is network.providers network.screens network.waiting k x.0 within (whole.links ∙ sym whole.count) in (
         ap (λ (s : Site). s.journal) site
             ∙ (ap (λ (p : ProviderState D). p.chronicle.entries) same
             ∙ ap (λ (c : ChronicleState D). c.entries) x.2),

@@ -6,6 +6,7 @@ use Rattle.pec_outside.specs.Flow.{HasRisen}
 use Rattle.pec_input.specs.Finding.{IsAtEnd}
 use Rattle.pec_dossier.specs.Checks.{asks_check}
 use Rattle.pec_dossier.specs.Exports.{asks_ldif}
+use Rattle.pec_dossier.specs.Extracts.{Range, extracts_in}
 use Rattle.pec_load_runs.specs.Loading.{loads_in}
 use Rattle.pec_runs.specs.Openings.{Form, form_in}
 use Rattle.pec_runs.specs.Ran.{Blames, Counts}
@@ -13,7 +14,7 @@ use Rattle.pec_runs.specs.Statuses as statuses
 use Rattle.pec_service.specs.Runs.{wanted_in}
 use Rattle.pec_top.specs.Blaming.{BlamesDevices, BlamesDisks}
 use Rattle.pec_top.specs.Shown.{end_shown, result_shown, stop_shown}
-use Rattle.pec_top.specs.Tasks.{Checks, Exports, NoForm, Plays, loads_or, plays_or, serves_or, task_in}
+use Rattle.pec_top.specs.Tasks.{Checks, Exports, NoForm, Plays, extracts_or, loads_or, plays_or, serves_or, task_in}
 use Rattle.pec_top.specs.declared.ending.End.{End}
 use Rattle.pec_top.specs.declared.ending.End.TheVariants as ends
 use Rattle.pec_top.specs.declared.ending.Stop.{Stop}
@@ -92,36 +93,39 @@ usage_undone P (Err stop) is ok = cc
 
 -- ---- tasks
 
-plays_form : (ldif check : Bool) (loads wanted : Option ℕ) (found : Option Form) (form : Form)
+plays_form : (ldif check : Bool) (range : Option Range) (loads wanted : Option ℕ) (found : Option Form) (form : Form)
     → Plays form
     ≡ (if ldif then Exports
-    else (if check then Checks else loads_or loads (serves_or wanted (plays_or found NoForm))))
+    else (if check then Checks else extracts_or range (loads_or loads (serves_or wanted (plays_or found NoForm)))))
     → found ≡ Some form
-plays_form true check loads wanted found form e = cc
-plays_form false true loads wanted found form e = cc
-plays_form false false (Some count) wanted found form e = cc
-plays_form false false None (Some number) found form e = cc
-plays_form false false None None (Some other) form e = cc
-plays_form false false None None None form e = cc
+plays_form true check range loads wanted found form e = cc
+plays_form false true range loads wanted found form e = cc
+plays_form false false (Some range) loads wanted found form e = cc
+plays_form false false None (Some count) wanted found form e = cc
+plays_form false false None None (Some number) found form e = cc
+plays_form false false None None None (Some other) form e = cc
+plays_form false false None None None None form e = cc
 
 -- words that ask to play say the form
 pub form_played : (words : List Bytes) (form : Form) → Plays form ≡ task_in words → form_in words ≡ Some form
 form_played words form e =
-    plays_form (asks_ldif words) (asks_check words) (loads_in words) (wanted_in words) (form_in words) form e
+    plays_form (asks_ldif words) (asks_check words) (extracts_in words) (loads_in words) (wanted_in words) (form_in words)
+    form e
 
-lacks_form : (ldif check : Bool) (loads wanted : Option ℕ) (found : Option Form)
+lacks_form : (ldif check : Bool) (range : Option Range) (loads wanted : Option ℕ) (found : Option Form)
     → NoForm
     ≡ (if ldif then Exports
-    else (if check then Checks else loads_or loads (serves_or wanted (plays_or found NoForm))))
+    else (if check then Checks else extracts_or range (loads_or loads (serves_or wanted (plays_or found NoForm)))))
     → found ≡ None
-lacks_form true check loads wanted found e = cc
-lacks_form false true loads wanted found e = cc
-lacks_form false false (Some count) wanted found e = cc
-lacks_form false false None (Some number) found e = cc
-lacks_form false false None None (Some other) e = cc
-lacks_form false false None None None e = refl
+lacks_form true check range loads wanted found e = cc
+lacks_form false true range loads wanted found e = cc
+lacks_form false false (Some range) loads wanted found e = cc
+lacks_form false false None (Some count) wanted found e = cc
+lacks_form false false None None (Some number) found e = cc
+lacks_form false false None None None (Some other) e = cc
+lacks_form false false None None None None e = refl
 
 -- words that ask for nothing are no form
 pub form_none : (words : List Bytes) → NoForm ≡ task_in words → form_in words ≡ None
 form_none words e =
-    lacks_form (asks_ldif words) (asks_check words) (loads_in words) (wanted_in words) (form_in words) e
+    lacks_form (asks_ldif words) (asks_check words) (extracts_in words) (loads_in words) (wanted_in words) (form_in words) e

@@ -2,6 +2,7 @@
 use Rattle.std.proofs.Common.{◌≡◌, ◌≢◌, ℕ, zero, suc, ◌+◌, ◌<◌, ◌≤◌, List, [], ◌∷◌, refl, ap, sym, subst, ◌∙◌, arith}
 use Rattle.std.proofs.Common.{length, get_or, Option, Some, None, Ok}
 use Rattle.std.proofs.lemmas.Option.{none-some, same_Some}
+use Rattle.pec_screen.specs.Verdicts.{Patterns}
 use Rattle.pec_seal.specs.Seals.{Seals}
 use Rattle.pec_types.specs.Bytes.{Bytes}
 use Rattle.pec_outside.specs.Depots.{Alike}
@@ -14,7 +15,7 @@ use Rattle.pec_ledger.specs.Network.{Site, site_at}
 use Rattle.pec_ledger.specs.Trade.{Trade}
 use Rattle.pec_serving.specs.OfNetworks.{AllAt, AllStand, IsOfDirectory, NetworkState, ProviderState, Stands, desk_of, site_of, sites, sites_of}
 use Rattle.pec_serving.specs.OfNetworks.{Command, Luck, played}
-use Rattle.pec_serving.specs.OfNetworks.{Waiting, waiting_for}
+use Rattle.pec_serving.specs.OfNetworks.{Waiting, behind_first, waiting_for}
 use Rattle.pec_runs.specs.Happened.{Asked, IsSetting, Setting, providers_in, trade_in}
 use Rattle.pec_runs.specs.Openings.{AreLeft, Disks, Form, IsLeft, IsOpening, IsUntouched, NoMore, disks_at, form_in, opened_all}
 use Rattle.pec_runs.specs.Plays.{MayPlay, Rest, RoseAlong, RoseBy, outcome_from}
@@ -25,10 +26,10 @@ use Rattle.pec_top.specs.Running.{RanSo, parts_behind}
 use Rattle.pec_runs.specs.Steps.{Point, lucks_in}
 use Rattle.pec_runs.specs.Reading.{IsRead}
 use Rattle.pec_top.specs.Scripts.{AreKept, at_first}
-use Rattle.pec_top.proofs.HadLemmas.{left_so}
+use Rattle.pec_top.proofs.HadLemmas.{left_so, screens_of}
 use Rattle.pec_top.proofs.RunningLemmas.{ran_begun, untouched_same}
 
-there : {X : Type 0} (xs : List X) (k : ℕ) → k < length xs → X
+pub there : {X : Type 0} (xs : List X) (k : ℕ) → k < length xs → X
 there [] k l = absurd (omega (arith, l))
 there (x ∷ xs) k l = x
 
@@ -54,13 +55,15 @@ rose_along trade (luck ∷ lucks) sites (command ∷ commands) earlier from upto
       second rose.2,
 )
 
-pub may_between : (tells : Type 0) (trade : Trade) (sites : List Site) (earlier from upto later : ℕ → ℕ) (script : Script)
+pub may_between : (tells : Type 0) (trade : Trade) (spares : List Patterns) (sites : List Site) (earlier from upto later : ℕ → ℕ) (script : Script)
     (lucks : List Luck) (rest : Rest) → ((k : ℕ) → earlier k ≤ from k) → ((k : ℕ) → upto k ≤ later k)
-    → MayPlay trade tells sites from upto script lucks rest → MayPlay trade tells sites earlier later script lucks rest
-may_between tells trade sites earlier from upto later script lucks rest first second may = record {
+    → MayPlay trade tells spares sites from upto script lucks rest
+    → MayPlay trade tells spares sites earlier later script lucks rest
+may_between tells trade spares sites earlier from upto later script lucks rest first second may = record {
   enough = may.enough;
   meet = may.meet;
   memory = may.memory;
+  handed = may.handed;
   counts = rose_along trade lucks sites script.commands earlier from upto later first second may.counts;
   kept = may.kept;
   shown = may.shown;
@@ -70,16 +73,16 @@ may_between tells trade sites earlier from upto later script lucks rest first se
 
 -- ---- disks that are kept again
 
-pub site_is : {D : Type 0} (providers : List (ProviderState D)) (waiting : List Waiting) (number : ℕ)
-    (other : ProviderState D)
+pub site_is : {D : Type 0} (providers : List (ProviderState D)) (screens : List (List Patterns)) (waiting : List Waiting)
+    (number : ℕ) (other : ProviderState D)
     → number < length providers → length waiting ≡ length providers
-    → site_at (sites_of providers waiting) number
-    ≡ site_of (desk_of (get_or providers number other)) (waiting_for waiting number)
-site_is [] waiting number other l e = absurd (omega (arith, l))
-site_is (provider ∷ providers) [] number other l e = absurd (omega (arith, e))
-site_is (provider ∷ providers) (links ∷ waiting) zero other l e = refl
-site_is (provider ∷ providers) (links ∷ waiting) (suc number) other l e =
-    site_is providers waiting number other (omega (arith, l)) (omega (arith, e))
+    → site_at (sites_of providers screens waiting) number
+    ≡ site_of (desk_of (get_or providers number other)) (screens_of screens number) (waiting_for waiting number)
+site_is [] screens waiting number other l e = absurd (omega (arith, l))
+site_is (provider ∷ providers) screens [] number other l e = absurd (omega (arith, e))
+site_is (provider ∷ providers) screens (links ∷ waiting) zero other l e = refl
+site_is (provider ∷ providers) screens (links ∷ waiting) (suc number) other l e =
+    site_is providers (behind_first screens) waiting number other (omega (arith, l)) (omega (arith, e))
 
 module _ {D S : Type 0} {seals : Seals} (home_tells reads : Type 0) (sight : D → Sight) (network : NetworkState D S)
     (whole : IsOfDirectory network.kept seals network.providers network.waiting) (mid new : ℕ → Option D)
@@ -109,7 +112,7 @@ module _ {D S : Type 0} {seals : Seals} (home_tells reads : Type 0) (sight : D �
   all_kept_so old stands alike = record {
     here = λ told k within.
         let x = at_home told.0 k within
-        in let site = site_is network.providers network.waiting k x.0 x.1.1.1
+        in let site = site_is network.providers network.screens network.waiting k x.0 x.1.1.1
         (whole.links ∙ sym whole.count)
         in let same = x.1.1.0
         in (
@@ -165,27 +168,29 @@ unfoldable pub ran_script : {D : Type 0} (asked : Asked) (form : Form) → form_
     → (journals : List (List Entry)) (status : Status) (unread behind : Option Bytes) (tells : Type 0) (sight : D
     → Sight)
     (old new : Disks) (from upto : ℕ → ℕ) (point there : Point D)
-    → point.state.sites ≡ opened_all (trade_in setting) journals → ((k : ℕ) → from k ≤ point.state.counts k)
+    → point.state.sites ≡ opened_all (trade_in setting) asked.screens journals → point.state.spares ≡ asked.spares
+    → ((k : ℕ) → from k ≤ point.state.counts k)
     → ((k : ℕ) → there.state.counts k ≤ upto k) → parts_left unread ≡ parts_behind bytes behind
     → IsOpening (trade_in setting) old form (record { journals = journals; next = NoMore })
-    → IsRead (trade_in setting) asked.finds (providers_in setting) tells sight (at_first point behind) there status
+    → IsRead (trade_in setting) (providers_in setting) tells sight (at_first point behind) there status
     → ((left : List Site) → (tells → left ≡ there.state.sites)
     → AreLeft old new form (record { journals = journals; next = NoMore }) left)
     → RanSo asked status unread point.held there.held tells old new from upto
 ran_script asked form is bytes short setting reads is_setting journals status unread behind tells sight old new from
     upto point
-    there begins since later input opens read leaves =
+    there begins spares since later input opens read leaves =
     let trade = trade_in setting
     in let providers = providers_in setting
     in let played = read.played
     in let lucks = lucks_in played.steps
-    in let script = script_of asked.finds providers 1 read.lines
-    in ran_begun asked form is bytes short setting reads is_setting read.lines
+    in let script = script_of read.hands providers 1 read.lines
+    in ran_begun asked form is bytes short setting reads is_setting read.hands read.lines
     (record { journals = journals; next = NoMore }) lucks played.rest status unread behind point.held there.held tells
     old new from upto played.left input read.left opens
-    (subst (λ (s : List Site). MayPlay trade tells s from upto script lucks played.rest) begins
-    (may_between tells trade point.state.sites from point.state.counts there.state.counts upto script lucks
-    played.rest since later played.may))
+    (subst (λ (s : List Site). MayPlay trade tells asked.spares s from upto script lucks played.rest) begins
+    (subst (λ (p : List Patterns). MayPlay trade tells p point.state.sites from upto script lucks played.rest) spares
+    (may_between tells trade point.state.spares point.state.sites from point.state.counts there.state.counts upto script
+    lucks played.rest since later played.may)))
     (subst (λ (s : List Site). LeavesOff trade (outcome_from trade lucks played.rest s script).after
     (command_in_hand status NoMore played.rest lucks script) played.left) begins played.leaves_off)
     (leaves played.left played.is_left)

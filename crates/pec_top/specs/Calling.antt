@@ -6,14 +6,15 @@ use Rattle.pec_load.specs.Heard.{load_input}
 use Rattle.pec_load_runs.specs.Loading.{counts_with, load_asked}
 use Rattle.pec_runs.specs.Passing.{OneRun}
 use Rattle.pec_runs.specs.Statuses.{Status}
-use Rattle.pec_screen.specs.Screened.{Finds}
+use Rattle.pec_screen.specs.Verdicts.{Patterns}
 use Rattle.pec_service.specs.Calling.{OneService}
 use Rattle.pec_top.specs.Tasks.{View}
 
--- A call: its words, what screens find, its status, and what it had before it and behind it.
+-- A call: its words, the patterns of its screens and spares, its status, and what it had before it and behind it.
 pub record Call (D : Type 0) : Type 0 where
   pub words : List Bytes
-  pub finds : Finds
+  pub screens : List (List Patterns)
+  pub spares : List Patterns
   pub status : Status
   pub old : View D
   pub new : View D
@@ -21,7 +22,7 @@ pub record Call (D : Type 0) : Type 0 where
 -- as a run that plays a script
 abbrev pub run_of : {D : Type 0} → Call D → OneRun D
 run_of call = record {
-  asked = record { words = call.words; finds = call.finds };
+  asked = record { words = call.words; screens = call.screens; spares = call.spares };
   status = call.status;
   unread = call.old.unread;
   before = call.old.held;
@@ -36,7 +37,7 @@ run_of call = record {
 -- and read from and wrote to memory with these counts of faults.
 abbrev pub load_of : {D : Type 0} → ℕ → Call D → Status → Bytes → (source sink : ℕ) → OneRun D
 load_of count call played lines source sink = record {
-  asked = load_asked call.finds;
+  asked = load_asked call.screens;
   status = played;
   unread = Some (load_input count);
   before = Some [];
@@ -50,7 +51,7 @@ load_of count call played lines source sink = record {
 -- as a run that serves so many connections
 abbrev pub service_of : {D : Type 0} → ℕ → Call D → OneService D
 service_of wanted call = record {
-  asked = record { wanted = wanted; finds = call.finds };
+  asked = record { wanted = wanted; screens = call.screens };
   status = call.status;
   unread = call.old.unread;
   before = call.old.held;

@@ -29,7 +29,7 @@ pub record HasServedOver {D : Type 0} (tells : Type 0) (sight : D → Sight) (as
     : Type 0 where
   pub so : HasServed asked status unread before after tells (disks_at tells sight home) (disks_at tells sight left) here
       there from upto
-  pub through : DisksWent tells sight home left from upto so.happened
+  pub through : DisksWent tells sight home left from upto asked so.happened
 
 -- ---- how a service ended
 

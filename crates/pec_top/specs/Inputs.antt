@@ -11,6 +11,7 @@ use Rattle.pec_input.specs.declared.opening.TheConstants.{LONGEST_DIRECTORY}
 use Rattle.pec_runs.specs.Endings.{end_text}
 use Rattle.pec_runs.specs.Endings as runs
 use Rattle.pec_runs.specs.Happened.{Asked, Over, stage_of}
+use Rattle.pec_runs.specs.ScriptLines.{Hands}
 use Rattle.pec_runs.specs.Openings.{Form, form_in}
 use Rattle.pec_runs.specs.Ran.{IsInput}
 use Rattle.pec_runs.specs.Statuses.{status_of}
@@ -32,7 +33,8 @@ pub record IsOver (unread : Option Bytes) (text : Bytes) (last : End) : Type 0 w
   pub end : runs.End
   pub parts : Parts
   pub input : IsInput unread parts
-  pub stage : (asked : Asked) (form : Form) → form_in asked.words ≡ Some form → stage_of asked false parts ≡ Over end
+  pub stage : (asked : Asked) (hands : Hands) (form : Form) → form_in asked.words ≡ Some form
+      → stage_of asked hands false parts ≡ Over end
   pub text_is : (providers : List Provider) → text ≡ end_text providers end
   pub shown : end_shown last ≡ status_of end
 

@@ -8,11 +8,11 @@ use Rattle.pec_input.specs.Lines.{content_of}
 use Rattle.pec_ledger.specs.Trade.{Trade}
 use Rattle.pec_runs.specs.Endings.{End, end_text}
 use Rattle.pec_runs.specs.Reading.{AreLinesLeft, GoesOn, IsLineRead, IsRead, LinePoint, Reads, TellsOn, behind_line, commands_by}
-use Rattle.pec_runs.specs.ScriptLines.{Line, nothing_but, said_by, script_of}
+use Rattle.pec_runs.specs.ScriptLines.{Hands, Line, nothing_but, said_by, script_of}
 use Rattle.pec_runs.specs.Steps.{Goes, IsWritten, NoneFell, Plays, Point, Stop, WriteFault, Writes, status_by, stopped_status}
-use Rattle.pec_screen.specs.Screened.{Finds}
+use Rattle.pec_screen.specs.Verdicts.{Patterns}
 
-pub record LoopLaws (D : Type 0) (tells : Type 0) (sight : D → Sight) (trade : Trade) (finds : Finds)
+pub record LoopLaws (D : Type 0) (tells : Type 0) (sight : D → Sight) (trade : Trade)
     (providers : List Provider) : Type 0 where
   -- acts: none, and a text that is written
   pub nowhere : (here : Point D) → Goes trade providers tells sight [] here here None
@@ -20,27 +20,28 @@ pub record LoopLaws (D : Type 0) (tells : Type 0) (sight : D → Sight) (trade :
       → NoneFell here there → IsWritten text here there stop
       → Goes trade providers tells sight (Writes text ∷ []) here there stop
   -- lines
-  pub starts : (first : LinePoint D) → Reads trade finds providers tells sight first first
-  pub on : (first here : LinePoint D) (there : Point D) (line : Bytes) (what : Line) (behind : Option Bytes)
-      → said_by finds providers here.number line ≡ what → GoesOn what → IsLineRead here.unread line behind
+  pub starts : (first : LinePoint D) → Reads trade providers tells sight first first
+  pub on : (first here : LinePoint D) (there : Point D) (spare : Option Patterns) (line : Bytes) (what : Line) (behind : Option Bytes)
+      → said_by spare providers here.number line ≡ what → GoesOn what → IsLineRead here.unread line behind
       → TellsOn here.unread behind → Goes trade providers tells sight (map Plays (commands_by what)) here.point there
       None
-      → Reads trade finds providers tells sight first here
-      → Reads trade finds providers tells sight first (behind_line here there behind)
+      → Reads trade providers tells sight first here
+      → Reads trade providers tells sight first (behind_line here there behind)
   pub ended : (first here : LinePoint D) (there : Point D) (lines : List Bytes) (end : End) (stop : Option Stop)
-      → script_of finds providers here.number lines ≡ nothing_but end → AreLinesLeft here.unread lines
+      → ((hands : Hands) → script_of hands providers here.number lines ≡ nothing_but end)
+      → AreLinesLeft here.unread lines
       → Goes trade providers tells sight (Writes (end_text providers end) ∷ []) here.point there stop
-      → Reads trade finds providers tells sight first here
-      → IsRead trade finds providers tells sight first there (status_by end stop)
-  pub stopped : (first here : LinePoint D) (there : Point D) (line : Bytes) (what : Line) (behind : Option Bytes)
-      (stop : Stop) → said_by finds providers here.number line ≡ what → GoesOn what
+      → Reads trade providers tells sight first here
+      → IsRead trade providers tells sight first there (status_by end stop)
+  pub stopped : (first here : LinePoint D) (there : Point D) (spare : Option Patterns) (line : Bytes) (what : Line) (behind : Option Bytes)
+      (stop : Stop) → said_by spare providers here.number line ≡ what → GoesOn what
       → IsLineRead here.unread line behind → TellsOn here.unread behind
       → Goes trade providers tells sight (map Plays (commands_by what)) here.point there (Some stop)
-      → Reads trade finds providers tells sight first here
-      → IsRead trade finds providers tells sight first there (stopped_status stop)
+      → Reads trade providers tells sight first here
+      → IsRead trade providers tells sight first there (stopped_status stop)
   pub halted : (first here : LinePoint D) (stop : Stop) → stop ≢ WriteFault
-      → Reads trade finds providers tells sight first here
-      → IsRead trade finds providers tells sight first here.point (stopped_status stop)
+      → Reads trade providers tells sight first here
+      → IsRead trade providers tells sight first here.point (stopped_status stop)
   -- bytes
   pub content : (line : Bytes) → (length (content_of line) ≤ length line)
       × (length line ≤ length (content_of line) + 2)

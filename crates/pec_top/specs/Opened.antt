@@ -21,6 +21,7 @@ use Rattle.pec_serving.specs.OfNetworks.{AllStand, ChronicleState, NetworkState,
 use Rattle.pec_serving.specs.OfNetworks.{journals_had, sites, world_of}
 use Rattle.pec_serving.specs.OfNetworks.faults as faults
 use Rattle.pec_serving.specs.OfNetworks.reasons as reasons
+use Rattle.pec_screen.specs.Verdicts.{Patterns}
 use Rattle.pec_seal.specs.Seals.{Seals}
 use Rattle.pec_top.specs.Scripts.{AreKept}
 use Rattle.pec_top.specs.Shown.{form_shown, unfit_of}
@@ -42,9 +43,10 @@ disks_of {D} providers number =
 
 -- ---- all are had
 
-module _ {D S : Type 0} (tells reads : Type 0) (sight : D → Sight) (seals : S → Seals) (count : D → ℕ) where
-  -- A network has its journals from the disks that were at home, and its disks are out; these are left there. Its counts of
-  -- faults rose from those that disks last had at home.
+module _ {D S : Type 0} (tells reads : Type 0) (sight : D → Sight) (seals : S → Seals) (count : D → ℕ)
+    (screens : List (List Patterns)) where
+  -- A network has these screens, and its journals from the disks that were at home, and its disks are out; these are
+  -- left there. Its counts of faults rose from those that disks last had at home.
   pub record IsOpened (how : Journals) (home left : ℕ → Option D) (last later : ℕ → ℕ) (network : NetworkState D S)
       : Type 0 where
     pub form : runs.Form
@@ -52,7 +54,7 @@ module _ {D S : Type 0} (tells reads : Type 0) (sight : D → Sight) (seals : S 
     pub setting : IsSetting (providers_of network.kept) (record { kept = network.kept; seals = seals network.sealer })
     pub opening : IsOpening (world_of seals network) (disks_at (tells × reads) sight home) form
         (record { journals = journals_had network.providers; next = NoMore })
-    pub begins : sites network ≡ opened_all (world_of seals network) (journals_had network.providers)
+    pub begins : sites network ≡ opened_all (world_of seals network) screens (journals_had network.providers)
     pub stands : tells × reads → AllStand sight network.providers
     -- what each disk went through
     pub had : AreHadFrom sight (tells × reads) form (world_of seals network) home (disks_of network.providers)
@@ -129,8 +131,8 @@ pub record IsRefusedSo (how : Journals) (providers : List Provider) (fault : Sta
   pub finishes : (other : ℕ) → Finishes providers refusal (finish_at holds (provider_named other fault) next)
 
 -- A disk came to nothing, behind those whose journals were had. `Went` says what disks went through.
-pub record IsRefusedAt (how : Journals) (setting : Setting) (providers : List Provider) (old new : Disks)
-    (Went : runs.Form → Trade → Type 0) (refusal : Refusal) : Type 0 where
+pub record IsRefusedAt (how : Journals) (screens : List (List Patterns)) (setting : Setting) (providers : List Provider)
+    (old new : Disks) (Went : runs.Form → Trade → Type 0) (refusal : Refusal) : Type 0 where
   pub form : runs.Form
   pub is_form : IsFormOf old (length setting.kept) how form
   pub is_setting : IsSetting providers setting
@@ -139,19 +141,19 @@ pub record IsRefusedAt (how : Journals) (setting : Setting) (providers : List Pr
   pub holds : Bool
   pub may_hold : MayHold how old (next_of opening) holds opening.next
   pub is_opening : IsOpening (trade_in setting) old form opening
-  pub left : AreLeft old new form opening (opened_all (trade_in setting) opening.journals)
+  pub left : AreLeft old new form opening (opened_all (trade_in setting) screens opening.journals)
   pub went : Went form (trade_in setting)
   pub finishes : Finishes providers refusal (finish_at holds (next_of opening) opening.next)
 
 -- Not all journals are had: memory ran out before a disk was asked for; or, where it was to be chosen, a disk couldn't be
 -- looked at; or one came to nothing. Only in the last case was something written, if at all.
-pub data IsUnopened (how : Journals) (kept : List Kept) (old new : Disks) (Went : runs.Form → Trade → Type 0)
-    (refusal : Refusal) : Type 0 where
+pub data IsUnopened (how : Journals) (screens : List (List Patterns)) (kept : List Kept) (old new : Disks)
+    (Went : runs.Form → Trade → Type 0) (refusal : Refusal) : Type 0 where
   Halted : refusal ≡ refusals.NoMemory → AreUntouched old new → ((trade : Trade) → Went runs.Resume trade)
-      → IsUnopened how kept old new Went refusal
+      → IsUnopened how screens kept old new Went refusal
   Unlooked : (seals : Seals) → how ≡ journals.Chosen → refusal ≡ refusals.StartFault
       → IsSetting (providers_of kept) (record { kept = kept; seals = seals })
-      → AreUntouched old new → ((trade : Trade) → Went runs.Resume trade) → IsUnopened how kept old new Went refusal
+      → AreUntouched old new → ((trade : Trade) → Went runs.Resume trade) → IsUnopened how screens kept old new Went refusal
   Refused : (seals : Seals)
-      → IsRefusedAt how (record { kept = kept; seals = seals }) (providers_of kept) old new Went refusal
-      → IsUnopened how kept old new Went refusal
+      → IsRefusedAt how screens (record { kept = kept; seals = seals }) (providers_of kept) old new Went refusal
+      → IsUnopened how screens kept old new Went refusal

@@ -9,7 +9,7 @@ use Rattle.pec_runs.specs.Openings.{IsLeft}
 use Rattle.pec_runs.specs.Reading.{IsRead, LinePoint}
 use Rattle.pec_runs.specs.Statuses.{Status}
 use Rattle.pec_runs.specs.Steps.{Point}
-use Rattle.pec_screen.specs.Screened.{Finds}
+use Rattle.pec_screen.specs.Verdicts.{Patterns}
 use Rattle.pec_seal.specs.Seals.{Seals}
 use Rattle.pec_serving.specs.OfNetworks.{AllStand, NetworkState, point_of, world_of}
 
@@ -18,14 +18,14 @@ abbrev pub at_first : {D : Type 0} → Point D → Option Bytes → LinePoint D
 at_first point unread = record { point = point; number = 1; unread = unread }
 
 -- What is left to read was read over a network, line by line, and its commands were played and written: from what the
--- output held, and its count of faults, to what they are, with this status. Past the providers the counts of disks may be
--- any. All that is asked: where disks tell what they hold, each provider stands on its own.
-abbrev pub ReadsOver : {D S : Type 0} → Type 0 → (D → Sight) → (D → ℕ) → (S → Seals) → Finds → (old new : NetworkState D S)
-    → (unread before after : Option Bytes) → (from upto : ℕ) → Status → Type 0
-ReadsOver tells sight faults seals finds old new unread before after from upto status =
+-- output held, its count of faults and the spares to what they are, with this status. Past the providers the counts of
+-- disks may be any. All that is asked: where disks tell what they hold, each provider stands on its own.
+abbrev pub ReadsOver : {D S : Type 0} → Type 0 → (D → Sight) → (D → ℕ) → (S → Seals) → (spares left : List Patterns)
+    → (old new : NetworkState D S) → (unread before after : Option Bytes) → (from upto : ℕ) → Status → Type 0
+ReadsOver tells sight faults seals spares left old new unread before after from upto status =
     (tells → AllStand sight old.providers) → (elsewhere : ℕ → ℕ)
-    → IsRead (world_of seals old) finds (providers_of old.kept) tells sight
-    (at_first (point_of faults elsewhere old before from) unread) (point_of faults elsewhere new after upto) status
+    → IsRead (world_of seals old) (providers_of old.kept) tells sight
+    (at_first (point_of faults elsewhere spares old before from) unread) (point_of faults elsewhere left new after upto) status
 
 -- Behind a script the disks of providers are at home, each with the journal of its provider in this state, with its
 -- interrupted entry or without it, also after a crash; all others are as they were.

@@ -1,7 +1,10 @@
 -- What the program's own values stand for in the words of a run.
-use Rattle.std.specs.Prelude.{◌≤◌, Option, Some, None, Result, Ok, Err, codes, if◌then◌else◌}
+use Rattle.std.specs.Prelude.{◌≤◌, ℕ, Option, Some, None, Result, Ok, Err, codes, if◌then◌else◌}
 use Rattle.std.specs.Str.{bytes_eq}
 use Rattle.pec_types.specs.Bytes.{Bytes}
+use Rattle.pec_dossier.specs.Extracts.{Range}
+use Rattle.pec_extract.specs.declared.faults.ExtractFault.{ExtractFault}
+use Rattle.pec_extract.specs.declared.faults.ExtractFault.TheVariants as extracts
 use Rattle.pec_input.specs.declared.buffers.InputFault.{InputFault}
 use Rattle.pec_input.specs.declared.buffers.InputFault.TheVariants as faults
 use Rattle.pec_serving.specs.OfNetworks.{NotFit}
@@ -40,6 +43,8 @@ status_shown told.NotFit = statuses.NotFit
 status_shown told.ClockFault = statuses.ClockFault
 status_shown told.DoorFault = statuses.DoorFault
 status_shown told.InputTooLong = statuses.InputTooLong
+status_shown told.DiskFault = statuses.DiskFault
+status_shown told.Changed = statuses.Changed
 
 abbrev pub end_shown : End → statuses.Status
 end_shown ends.Done = statuses.Done
@@ -61,6 +66,14 @@ stop_shown stops.DoorFault = statuses.DoorFault
 abbrev pub result_shown : Result End Stop → statuses.Status
 result_shown (Ok end) = end_shown end
 result_shown (Err stop) = stop_shown stop
+
+-- the status of a run that wrote an extract of logs, or was stopped so
+abbrev pub log_shown : {X : Type 0} → Result X ExtractFault → statuses.Status
+log_shown (Ok done) = statuses.Done
+log_shown (Err extracts.NoMemory) = statuses.NoMemory
+log_shown (Err extracts.WriteFault) = statuses.WriteFault
+log_shown (Err extracts.DiskFault) = statuses.DiskFault
+log_shown (Err (extracts.Changed number)) = statuses.Changed
 
 -- what stops a run where its input isn't read on
 abbrev pub stop_of : InputFault → Stop
@@ -89,11 +102,16 @@ form_named word =
     if bytes_eq word (codes "run") then Some runs.Run
     else (if bytes_eq word (codes "resume") then Some runs.Resume else None)
 
+-- the range between two moments
+abbrev pub range_shown : ℕ × ℕ → Range
+range_shown ends = record { from = ends.0; upto = ends.1 }
+
 abbrev pub task_shown : Task → tasks.Task
 task_shown (asked.Play form) = tasks.Plays (form_shown form)
 task_shown (asked.Serve wanted) = tasks.Serves wanted
 task_shown asked.Export = tasks.Exports
 task_shown asked.Check = tasks.Checks
+task_shown (asked.Extract from upto) = tasks.Extracts (range_shown (from, upto))
 task_shown (asked.Load count) = tasks.Loads count
 task_shown asked.NoForm = tasks.NoForm
 

@@ -5,6 +5,7 @@ use Rattle.pec_types.specs.Bytes.{Bytes}
 use Rattle.pec_outside.specs.DiskModel.{Sight}
 use Rattle.pec_dossier.specs.Checks.{CheckRan, asks_check}
 use Rattle.pec_dossier.specs.Exports.{ExportRan, asks_ldif}
+use Rattle.pec_dossier.specs.Extracts.{Range, extracts_in}
 use Rattle.pec_input.specs.Finding.{IsAtEnd}
 use Rattle.pec_ldif.specs.Writing.{ldif_text}
 use Rattle.pec_load_runs.specs.Loading.{LoadRan, loads_in}
@@ -13,9 +14,10 @@ use Rattle.pec_runs.specs.Openings.{Form, form_in}
 use Rattle.pec_runs.specs.Statuses.{Status}
 use Rattle.pec_runs.specs.Statuses as statuses
 use Rattle.pec_runs.specs.Through.{RanThrough}
-use Rattle.pec_screen.specs.Screened.{Finds}
+use Rattle.pec_screen.specs.Verdicts.{Patterns}
 use Rattle.pec_service.specs.Runs.{AllCounts, Outside, wanted_in}
 use Rattle.pec_service.specs.Through.{ServiceRanThrough}
+use Rattle.pec_top.specs.Extracting.{LogRan}
 use Rattle.pec_top.specs.Hosting.{counts_of}
 use Rattle.pec_top.specs.Running.{AreHomeAgain}
 
@@ -27,6 +29,7 @@ pub data Task : Type 0 where
   Serves : (wanted : ℕ) → Task  -- to serve so many connections
   Exports : Task  -- to write its directory as LDIF
   Checks : Task  -- to check a dossier of saved letters
+  Extracts : (range : Range) → Task  -- to write an extract of what was logged in a range of moments
   Loads : (count : ℕ) → Task  -- to play a load of so many messages
   NoForm : Task  -- the words are none of the program's forms
 
@@ -42,12 +45,17 @@ abbrev pub loads_or : Option ℕ → Task → Task
 loads_or (Some count) other = Loads count
 loads_or None other = other
 
+abbrev pub extracts_or : Option Range → Task → Task
+extracts_or (Some range) other = Extracts range
+extracts_or None other = other
+
 -- What the words ask for. No words ask for two things, so the order says nothing.
 abbrev pub task_in : List Bytes → Task
 task_in words =
     if asks_ldif words then Exports
     else (if asks_check words then Checks
-    else loads_or (loads_in words) (serves_or (wanted_in words) (plays_or (form_in words) NoForm)))
+    else extracts_or (extracts_in words)
+    (loads_or (loads_in words) (serves_or (wanted_in words) (plays_or (form_in words) NoForm))))
 
 -- words that are no form read no input, and a load reads what it makes
 abbrev pub reads_input : Task → Bool
@@ -55,11 +63,12 @@ reads_input NoForm = false
 reads_input (Loads count) = false
 reads_input _ = true
 
--- only a run that plays or serves asks for disks
+-- only a run that plays, serves or extracts asks for disks
 abbrev pub asks_disks : Task → Bool
 asks_disks (Plays form) = true
 asks_disks (Serves wanted) = true
 asks_disks (Loads count) = true
+asks_disks (Extracts range) = true
 asks_disks _ = false
 
 -- only a run that serves asks clock and door
@@ -93,19 +102,19 @@ view_of unread source held sink home last depot moments clock requests replies o
   counts = counts_of source sink depot last clock door;
 }
 
-module _ {D : Type 0} (tells : Type 0) (sight : D → Sight) (words : List Bytes) (finds : Finds) (status : Status)
-    (old new : View D) where
+module _ {D : Type 0} (tells : Type 0) (sight : D → Sight) (words : List Bytes)
+    (screens : List (List Patterns)) (spares : List Patterns) (status : Status) (old new : View D) where
   -- A script was played; or the words have no form. It says of each moment of it what a crash may leave.
   abbrev pub HasPlayed : Type 0
   HasPlayed =
-      RanThrough tells sight (record { words = words; finds = finds }) status old.unread old.held new.held old.home new.home
-      old.counts.devices new.counts.devices
+      RanThrough tells sight (record { words = words; screens = screens; spares = spares }) status old.unread old.held
+      new.held old.home new.home old.counts.devices new.counts.devices
 
   -- Connections were served. It says of each moment of it what a crash may leave.
   abbrev pub HasServed : ℕ → Type 0
   HasServed wanted =
-      ServiceRanThrough tells sight (record { wanted = wanted; finds = finds }) status old.unread old.held new.held old.home
-      new.home old.outside new.outside old.counts new.counts
+      ServiceRanThrough tells sight (record { wanted = wanted; screens = screens }) status old.unread old.held new.held
+      old.home new.home old.outside new.outside old.counts new.counts
 
   -- The directory was written as LDIF.
   abbrev pub HasExported : Type 0
@@ -115,10 +124,16 @@ module _ {D : Type 0} (tells : Type 0) (sight : D → Sight) (words : List Bytes
   abbrev pub HasChecked : Type 0
   HasChecked = CheckRan status old.unread old.held new.held old.counts.devices new.counts.devices
 
+  -- An extract of logs was written, of this range.
+  abbrev pub HasExtracted : Range → Type 0
+  HasExtracted range =
+      LogRan tells sight range status old.unread old.held new.held old.home new.home old.counts.devices
+      new.counts.devices
+
   -- A load of so many messages was played.
   abbrev pub HasLoaded : ℕ → Type 0
   HasLoaded count =
-      LoadRan tells sight count finds status old.held new.held old.home new.home old.counts.devices new.counts.devices
+      LoadRan tells sight count screens status old.held new.held old.home new.home old.counts.devices new.counts.devices
 
   -- A run that does so.
   abbrev pub IsRun : Task → Type 0
@@ -126,14 +141,16 @@ module _ {D : Type 0} (tells : Type 0) (sight : D → Sight) (words : List Bytes
   IsRun (Serves wanted) = HasServed wanted
   IsRun Exports = HasExported
   IsRun Checks = HasChecked
+  IsRun (Extracts range) = HasExtracted range
   IsRun (Loads count) = HasLoaded count
   IsRun NoForm = HasPlayed
 
--- A run of the program on these words. `tells`: the depot tells its disks; `reads`: these tell what they hold.
-pub record ProgramRan {D : Type 0} (tells reads : Type 0) (sight : D → Sight) (words : List Bytes) (finds : Finds)
-    (status : Status) (old new : View D) : Type 0 where
+-- A run of the program on these words, with screens and spares of these patterns. `tells`: the depot tells its disks;
+-- `reads`: these tell what they hold.
+pub record ProgramRan {D : Type 0} (tells reads : Type 0) (sight : D → Sight) (words : List Bytes)
+    (screens : List (List Patterns)) (spares : List Patterns) (status : Status) (old new : View D) : Type 0 where
   -- it is one of the kind that the words ask for
-  pub is_run : IsRun (tells × reads) sight words finds status old new (task_in words)
+  pub is_run : IsRun (tells × reads) sight words screens spares status old new (task_in words)
   -- at status 0 the input was read to its end, where it is read
   pub all_read : status ≡ statuses.Done → reads_input (task_in words) ≡ true → IsAtEnd new.unread
   -- each connection that was let in is closed

@@ -2,14 +2,18 @@ ghost use Rattle.std.specs.Prelude.{◌≡◌, ◌≤◌, codes, map, None, IfSo
 ghost use Rattle.std.specs.Str.{bytes_eq};
 ghost use Rattle.pec_dossier.specs.Checks.{asks_check};
 ghost use Rattle.pec_dossier.specs.Exports.{asks_ldif};
+ghost use Rattle.pec_dossier.specs.Extracts.{extracts_in, range_between};
 ghost use Rattle.pec_load_runs.specs.Loading.{loads_in, number_loaded};
 ghost use Rattle.pec_runs.specs.Openings.{form_in};
 ghost use Rattle.pec_service.specs.Runs.{number_wanted, wanted_in};
-ghost use Rattle.pec_top.specs.Shown.{AsksFew, form_named, form_shown, task_shown, way_of};
+ghost use Rattle.pec_top.specs.Shown.{AsksFew, form_named, form_shown, range_shown, task_shown, way_of};
 ghost use Rattle.pec_top.specs.Tasks.{task_in};
+ghost use Rattle.pec_types.specs.declared.moments.TheConstants.{END_OF_TIME};
+ghost use Rattle.pec_words.specs.Numbers.{number_below};
 
 use pec_load::MOST_MESSAGES;
 use pec_serving::Form as Way;
+use pec_types::{END_OF_TIME, Moment};
 use pec_words::number_below;
 
 /// How many connections may be asked for.
@@ -26,6 +30,8 @@ pub(crate) enum Task {
     Export,
     /// To check a dossier of saved letters.
     Check,
+    /// To write an extract of logs, from the first moment to the second.
+    Extract(Moment, Moment),
     /// To play a load of so many messages.
     Load(u64),
     /// The words are none of the program's forms.
@@ -42,6 +48,9 @@ impl Task {
         }
         if asks_check(words) {
             return Task::Check;
+        }
+        if let Some((from, upto)) = extracted(words) {
+            return Task::Extract(from, upto);
         }
         if let Some(count) = loaded(words) {
             return Task::Load(count);
@@ -118,6 +127,39 @@ fn asks_check(words: &[String]) -> bool
         [word] => word.as_str() == "check",
         _ => false,
     }
+}
+
+/// The ends of the range that the words ask for, where they are `extract FROM TO`.
+fn extracted(words: &[String]) -> Option<(Moment, Moment)>
+    ensures { option_map range_shown result ≡ extracts_in (map string_bytes words.now) }
+{
+    match words {
+        [word, from, upto] => extracted_of(word.as_str(), from.as_bytes(), upto.as_bytes()),
+        _ => None,
+    }
+}
+
+fn extracted_of(word: &str, from: &[u8], upto: &[u8]) -> Option<(Moment, Moment)>
+    ensures { option_map range_shown result ≡ if bytes_eq word.now (codes "extract")
+        then range_between (number_below END_OF_TIME from.now) (number_below END_OF_TIME upto.now) else None }
+{
+    if word != "extract" {
+        return None;
+    }
+    let from = moment_of(from)?;
+    let upto = moment_of(upto)?;
+    if upto.seconds() < from.seconds() {
+        return None;
+    }
+    Some((from, upto))
+}
+
+/// The moment that the text is.
+fn moment_of(text: &[u8]) -> Option<Moment>
+    ensures { result ≡ number_below END_OF_TIME text.now }
+{
+    let seconds = number_below(text, END_OF_TIME)?;
+    Moment::new(seconds)
 }
 
 /// How many messages the words ask for, where they are `load N`.

@@ -2,7 +2,6 @@ ghost use Rattle.std.specs.Prelude.{◌≡◌, ℕ, Ok, Option, map};
 ghost use Rattle.pec_types.specs.Bytes.{Bytes};
 ghost use Rattle.pec_directory.specs.Directory.{providers_of};
 ghost use Rattle.pec_input.specs.Finding.{IsAtEnd};
-ghost use Rattle.pec_screen.specs.Screened.{finds_in};
 ghost use Rattle.pec_top.specs.Hosting.{CountsGo, HasServedOver, counts_of, ended_as};
 ghost use Rattle.pec_top.specs.Inputs.{IsWholeTaken};
 ghost use Rattle.pec_top.specs.Running.{AreHomeAgain};
@@ -29,7 +28,7 @@ pub(crate) fn serve_form<
     P: Depot,
     T: Ticks,
     R: Door,
-    J: Judge,
+    J: Judge + Send,
 >(
     rt: &X,
     alloc: Global,
@@ -41,8 +40,10 @@ pub(crate) fn serve_form<
     door: &mut R,
     screens: Vec<J>,
 ) -> Result<End, Stop>
+where
+    J::Spare: Send,
     ensures served { HasServedOver (P.tells × P.D.tells) P.D.sight
-        (record { wanted = wanted; finds = finds_in (map J.patterns screens.items) })
+        (record { wanted = wanted; screens = map J.patterns screens.items })
         (result_shown result) (S.left input.old) (W.held out.old) (W.held out.new)
         (P.home depot.old) (P.home depot.new)
         (record { moments = T.coming ticks.old; requests = R.requests door.old; replies = R.replies door.old })
@@ -68,7 +69,7 @@ pub(crate) fn serve_form<
 }
 
 /// Begins the network of a directory, serves at its desk, and keeps its disks in the depot again.
-fn serve_opened<X: Threads + Sync, W: Sink, P: Depot, T: Ticks, R: Door, J: Judge>(
+fn serve_opened<X: Threads + Sync, W: Sink, P: Depot, T: Ticks, R: Door, J: Judge + Send>(
     rt: &X,
     alloc: Global,
     wanted: u32,
@@ -79,26 +80,28 @@ fn serve_opened<X: Threads + Sync, W: Sink, P: Depot, T: Ticks, R: Door, J: Judg
     door: &mut R,
     screens: Vec<J>,
 ) -> Result<End, Stop>
+where
+    J::Spare: Send,
     ensures served { (unread left : Option Bytes) → IsWholeTaken unread left (providers_of directory)
         → HasServedOver (P.tells × P.D.tells) P.D.sight
-        (record { wanted = wanted; finds = finds_in (map J.patterns screens.items) })
+        (record { wanted = wanted; screens = map J.patterns screens.items })
         (result_shown result) unread (W.held out.old) (W.held out.new)
         (P.home depot.old) (P.home depot.new)
         (record { moments = T.coming ticks.old; requests = R.requests door.old; replies = R.replies door.old })
         (record { moments = T.coming ticks.new; requests = R.requests door.new; replies = R.replies door.new })
         (P.last depot.old) (P.last depot.new) }
     ensures counts { CountsGo (result_shown result)
-        (counts_of 0 (W.faults out.old) (P.faults depot.old) (P.last depot.old) (T.faults ticks.old) (R.faults door.old))
-        (counts_of 0 (W.faults out.new) (P.faults depot.new) (P.last depot.new) (T.faults ticks.new) (R.faults door.new)) }
+        (counts_of 0 (W.faults out.old) (P.faults depot.old) (P.last depot.old) (T.faults ticks.old)
+        (R.faults door.old))
+        (counts_of 0 (W.faults out.new) (P.faults depot.new) (P.last depot.new) (T.faults ticks.new)
+        (R.faults door.new)) }
     ensures home { P.tells → AreHomeAgain (P.home depot.old) (P.home depot.new) }
     ensures out { R.out door.new ≡ R.out door.old }
 {
-    match open(alloc, Journals::Chosen, directory, depot) {
+    match open(alloc, Journals::Chosen, directory, screens, depot) {
         Ok(network) => {
             a_network_is_whole(&network);
-            let (network, ending) = serve(
-                rt, alloc, network, depot, screens, ticks, door, out, wanted,
-            );
+            let (network, ending) = serve(rt, alloc, network, depot, ticks, door, out, wanted);
             a_network_is_whole(&network);
             network.close(depot);
             ended(ending)

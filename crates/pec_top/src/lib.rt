@@ -6,6 +6,7 @@ mod calling;
 mod checking;
 mod ending;
 mod exporting;
+mod extracting;
 mod forms;
 mod hosting;
 mod input;

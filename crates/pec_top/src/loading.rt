@@ -6,7 +6,6 @@ ghost use Rattle.pec_load_runs.specs.Loading.{LoadRan, LoadTells, state_text, su
 ghost use Rattle.pec_ledger.specs.Network.{Site};
 ghost use Rattle.pec_ledger.specs.Trade.{Trade};
 ghost use Rattle.pec_runs.specs.Statuses as statuses;
-ghost use Rattle.pec_screen.specs.Screened.{finds_in};
 ghost use Rattle.pec_script.specs.Pages.{line_after};
 ghost use Rattle.pec_top.specs.Reporting.{IsTold};
 ghost use Rattle.pec_top.specs.Running.{AreHomeAgain};
@@ -31,17 +30,19 @@ const PIECE: usize = 65_536;
 
 /// Runs the program in the form that plays a load of so many messages: it makes a directory and a script, plays them as
 /// a run does, and in the end writes what has become of the messages.
-pub(crate) fn load_form<X: Threads + Sync, W: Sink, P: Depot, J: Judge>(
+pub(crate) fn load_form<X: Threads + Sync, W: Sink, P: Depot, J: Judge + Send>(
     rt: &X,
     alloc: Global,
     count: u64,
     out: &mut W,
     depot: &mut P,
-    screens: &mut [J],
+    screens: Vec<J>,
 ) -> Result<End, Stop>
+where
+    J::Spare: Send,
     requires { count ≤ MOST_MESSAGES }
     // (the input isn't touched, so its count stands still)
-    ensures loaded { (input : ℕ) → LoadRan (P.tells × P.D.tells) P.D.sight count (finds_in (map J.patterns screens.old))
+    ensures loaded { (input : ℕ) → LoadRan (P.tells × P.D.tells) P.D.sight count (map J.patterns screens.items)
         (result_shown result) (W.held out.old) (W.held out.new) (P.home depot.old) (P.home depot.new)
         (record { source = input; sink = W.faults out.old; depot = P.faults depot.old; disks = P.last depot.old })
         (record { source = input; sink = W.faults out.new; depot = P.faults depot.new; disks = P.last depot.new }) }
@@ -51,6 +52,7 @@ pub(crate) fn load_form<X: Threads + Sync, W: Sink, P: Depot, J: Judge>(
     let input = input_text(alloc, count)?;
     let mut source = MemSource::new(alloc, input, PIECE, Vec::new(alloc));
     let mut lines = MemSink::new(alloc, Vec::new(alloc));
+    let spares = Vec::new(alloc);
     let mut report = Report::Asked;
     let run = run_form(
         rt,
@@ -60,6 +62,7 @@ pub(crate) fn load_form<X: Threads + Sync, W: Sink, P: Depot, J: Judge>(
         &mut lines,
         depot,
         screens,
+        spares,
         &mut report,
     );
     end_load(alloc, count, run, report, lines.bytes(), out)
@@ -145,7 +148,8 @@ fn write_summary<W: Sink>(
     out: &mut W,
 ) -> Result<End, Stop>
     ensures told { (trade : Trade) (sites : List Site) → IsTold report trade sites
-        → LoadTells (result_shown result) statuses.Done (state_text count trade sites) (W.held out.old) (W.held out.new) }
+        → LoadTells (result_shown result) statuses.Done (state_text count trade sites) (W.held out.old)
+        (W.held out.new) }
     ensures write_fault { IsErrOf result Stop.WriteFault → HasRisen (W.faults out.old) (W.faults out.new) }
     ensures read_fault { IsErrOf result Stop.ReadFault → ⊥ }
     ensures started { IsErrOf result Stop.StartFault → ⊥ }

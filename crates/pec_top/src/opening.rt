@@ -1,4 +1,4 @@
-ghost use Rattle.std.specs.Prelude.{◌≡◌, ◌≢◌, ◌&&◌, ◌⊎◌, ℕ, ◌<◌, ◌≤◌, List, None, Option, IfOk, IfErr, OnErr};
+ghost use Rattle.std.specs.Prelude.{◌≡◌, ◌≢◌, ◌&&◌, ◌⊎◌, ℕ, ◌<◌, ◌≤◌, List, None, Option, map, IfOk, IfErr, OnErr};
 ghost use Rattle.pec_outside.specs.Depots.{depot_places};
 ghost use Rattle.pec_directory.specs.Directory.{Provider, providers_of};
 ghost use Rattle.pec_runs.specs.Openings.{Unfits, disks_at};
@@ -23,6 +23,7 @@ use crate::survey::{choose_form, holds_something};
 use crate::texts::{not_empty_text, not_fit_text};
 use pec_directory::Directory;
 use pec_outside::{Depot, Disk, Failed, Sink, a_disk_is_so};
+use pec_screen::Judge;
 use pec_seal::{HmacSealer, Sealer};
 use pec_serving::{
     Network, NotFit, StartFault, a_trade_says_what_its_parts_say, sealer_of, the_texts_are_a_trade,
@@ -60,17 +61,20 @@ impl From<NoMemory> for Refusal {
     }
 }
 
-/// The network of a directory, each of whose providers has its journal on its disk of the depot.
-pub(crate) fn open<P: Depot>(
+/// The network of a directory, each of whose providers has its journal on its disk of the depot. The screens of a
+/// provider are those at its number, and none where there are fewer; with a refusal they are dropped.
+pub(crate) fn open<P: Depot, J: Judge>(
     alloc: Global,
     how: Journals,
     directory: Directory,
+    screens: Vec<J>,
     depot: &mut P,
-) -> Result<Network<P::D, HmacSealer>, Refusal>
+) -> Result<Network<P::D, HmacSealer, J>, Refusal>
     ensures same { IfOk result (λ network. network.kept ≡ directory) }
-    ensures opened { IfOk result (λ network. IsOpened P.tells P.D.tells P.D.sight ⟦<HmacSealer as Sealer>⟧.seals P.D.faults
-        how (P.home depot.old) (P.home depot.new) (P.last depot.old) (P.last depot.new) network) }
-    ensures refused { IfErr result (λ refusal. IsUnopened how directory
+    ensures opened { IfOk result (λ network. IsOpened P.tells P.D.tells P.D.sight
+        ⟦<HmacSealer as Sealer>⟧.seals P.D.faults (map J.patterns screens.items) how (P.home depot.old)
+        (P.home depot.new) (P.last depot.old) (P.last depot.new) network) }
+    ensures refused { IfErr result (λ refusal. IsUnopened how (map J.patterns screens.items) directory
         (disks_at (P.tells × P.D.tells) P.D.sight (P.home depot.old))
         (disks_at (P.tells × P.D.tells) P.D.sight (P.home depot.new))
         (λ form trade. AreHadFrom P.D.sight (P.tells × P.D.tells) form trade (P.home depot.old) (P.home depot.new))
@@ -90,7 +94,7 @@ pub(crate) fn open<P: Depot>(
     let Ok(form) = form_of(how, depot, count) else {
         return Err(Refusal::StartFault);
     };
-    match Network::begin(alloc, form.way(), directory, sealer, depot) {
+    match Network::begin(alloc, form.way(), directory, sealer, screens, depot) {
         Ok(network) => {
             a_network_is_whole(&network);
             Ok(network)

@@ -1,6 +1,7 @@
 ghost use Rattle.pec_serving.specs.OfNetworks.{sites, world_of};
 ghost use Rattle.pec_top.specs.Reporting.{IsTold, Reports};
 
+use pec_screen::Judge;
 use pec_seal::Sealer;
 use pec_serving::{Network, Summary};
 
@@ -20,7 +21,7 @@ pub(crate) enum Report {
 impl Report {
     /// With what is asked of this network.
     #[tactic(auto, using(crate::proofs::ReportLemmas::unlooked))]
-    pub(crate) fn of<D, H: Sealer>(self, network: &Network<D, H>) -> Report
+    pub(crate) fn of<D, H: Sealer, J: Judge>(self, network: &Network<D, H, J>) -> Report
         ensures { Reports self result (world_of H.seals network.now) (sites network.now) }
     {
         match self {
@@ -31,7 +32,7 @@ impl Report {
 }
 
 /// What is told of a network of two providers or more.
-fn told<D, H: Sealer>(network: &Network<D, H>) -> Report
+fn told<D, H: Sealer, J: Judge>(network: &Network<D, H, J>) -> Report
     ensures { IsTold result (world_of H.seals network.now) (sites network.now) }
 {
     if network.directory().count() < 2 {

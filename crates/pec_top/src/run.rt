@@ -5,11 +5,10 @@ ghost use Rattle.pec_outside.specs.Flow.{behind, followed_by, HasRisen, WrotePar
 ghost use Rattle.pec_directory.specs.Directory.{providers_of};
 ghost use Rattle.pec_input.specs.Finding.{IsAtEnd};
 ghost use Rattle.pec_runs.specs.Openings.{form_in};
-ghost use Rattle.pec_screen.specs.Screened.{finds_in};
 ghost use Rattle.pec_top.specs.Blaming.{BlamesDevices, DisksGo};
 ghost use Rattle.pec_top.specs.Inputs.{IsTaken};
 ghost use Rattle.pec_top.specs.Reporting.{RanReporting};
-ghost use Rattle.pec_top.specs.Running.{AreHomeAgain};
+ghost use Rattle.pec_top.specs.Running.{AreHomeAgain, asked_with};
 ghost use Rattle.pec_top.specs.Shown.{form_shown, result_shown};
 
 use crate::ending::{End, Stop};
@@ -27,21 +26,24 @@ use std::alloc::Global;
 use std::thread::Threads;
 
 /// Runs the program in a form that plays a script, on its input and the disks of a depot.
-pub(crate) fn run_form<X: Threads + Sync, S: Source, W: Sink, P: Depot, J: Judge>(
+pub(crate) fn run_form<X: Threads + Sync, S: Source, W: Sink, P: Depot, J: Judge + Send>(
     rt: &X,
     alloc: Global,
     form: Form,
     input: &mut S,
     out: &mut W,
     depot: &mut P,
-    screens: &mut [J],
+    screens: Vec<J>,
+    spares: Vec<J::Spare>,
     report: &mut Report,
 ) -> Result<End, Stop>
+where
+    J::Spare: Send,
     ensures ran { (words : List Bytes) → form_in words ≡ Some (form_shown form)
         → RanReporting (P.tells × P.D.tells) P.D.sight
-        (record { words = words; finds = finds_in (map J.patterns screens.old) }) (result_shown result) (S.left input.old)
-        (W.held out.old) (W.held out.new) (P.home depot.old) (P.home depot.new) (P.last depot.old) (P.last depot.new)
-        report.old report.new }
+        (asked_with words (map J.patterns screens.items) (map J.spare_patterns spares.items)) (result_shown result)
+        (S.left input.old) (W.held out.old) (W.held out.new) (P.home depot.old) (P.home depot.new)
+        (P.last depot.old) (P.last depot.new) report.old report.new }
     ensures all_read { IfOk result (λ end. end ≡ End.Done → IsAtEnd (S.left input.new)) }
     ensures blame { BlamesDevices result (S.faults input.old) (S.faults input.new)
         (W.faults out.old) (W.faults out.new) }
@@ -61,6 +63,7 @@ pub(crate) fn run_form<X: Threads + Sync, S: Source, W: Sink, P: Depot, J: Judge
                 out,
                 depot,
                 screens,
+                spares,
                 report,
             )
         }
@@ -69,7 +72,7 @@ pub(crate) fn run_form<X: Threads + Sync, S: Source, W: Sink, P: Depot, J: Judge
 }
 
 /// Begins the network of a directory, plays the script that is left, and keeps its disks in the depot again.
-fn run_opened<X: Threads + Sync, S: Source, W: Sink, P: Depot, J: Judge>(
+fn run_opened<X: Threads + Sync, S: Source, W: Sink, P: Depot, J: Judge + Send>(
     rt: &X,
     alloc: Global,
     form: Form,
@@ -78,26 +81,39 @@ fn run_opened<X: Threads + Sync, S: Source, W: Sink, P: Depot, J: Judge>(
     buffer: &mut Buffer,
     out: &mut W,
     depot: &mut P,
-    screens: &mut [J],
+    screens: Vec<J>,
+    spares: Vec<J::Spare>,
     report: &mut Report,
 ) -> Result<End, Stop>
+where
+    J::Spare: Send,
     ensures ran { (words : List Bytes) (unread : Option Bytes) → form_in words ≡ Some (form_shown form)
         → IsTaken unread (behind buffer.old (S.left source.old)) (providers_of directory)
         → RanReporting (P.tells × P.D.tells) P.D.sight
-        (record { words = words; finds = finds_in (map J.patterns screens.old) }) (result_shown result) unread
-        (W.held out.old) (W.held out.new) (P.home depot.old) (P.home depot.new) (P.last depot.old) (P.last depot.new)
-        report.old report.new }
+        (asked_with words (map J.patterns screens.items) (map J.spare_patterns spares.items)) (result_shown result)
+        unread (W.held out.old) (W.held out.new) (P.home depot.old) (P.home depot.new)
+        (P.last depot.old) (P.last depot.new) report.old report.new }
     ensures all_read { IfOk result (λ end. end ≡ End.Done → IsAtEnd (behind buffer.new (S.left source.new))) }
     ensures blame { BlamesDevices result (S.faults source.old) (S.faults source.new)
         (W.faults out.old) (W.faults out.new) }
     ensures disks { DisksGo result (P.faults depot.old) (P.faults depot.new) (P.last depot.old) (P.last depot.new) }
     ensures home { P.tells → AreHomeAgain (P.home depot.old) (P.home depot.new) }
 {
-    match open(alloc, Journals::As(form), directory, depot) {
+    match open(alloc, Journals::As(form), directory, screens, depot) {
         Ok(network) => {
             let mut network = network;
+            let mut spares = spares;
             a_network_is_whole(&network);
-            let result = play_script(rt, alloc, &mut network, depot, screens, source, buffer, out);
+            let result = play_script(
+                rt,
+                alloc,
+                &mut network,
+                depot,
+                &mut spares,
+                source,
+                buffer,
+                out,
+            );
             *report = report.of(&network);
             a_network_is_whole(&network);
             network.close(depot);

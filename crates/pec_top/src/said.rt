@@ -1,10 +1,10 @@
-ghost use Rattle.std.specs.Prelude.{◌≡◌, ◌≢◌, ◌≤◌, length, None, Some, IfOk};
+ghost use Rattle.std.specs.Prelude.{◌≡◌, ◌≢◌, ◌≤◌, length, None, Option, Some, IfOk};
 ghost use Rattle.pec_types.specs.Bytes.{Bytes};
 ghost use Rattle.pec_directory.specs.Directory.{providers_of};
 ghost use Rattle.pec_input.specs.Lines.{content_of};
 ghost use Rattle.pec_runs.specs.Endings.{end_text};
 ghost use Rattle.pec_runs.specs.ScriptLines.{is_passed_over, longest_line, most_lines};
-ghost use Rattle.pec_screen.specs.Screened.{Finds};
+ghost use Rattle.pec_screen.specs.Verdicts.{Patterns};
 ghost use Rattle.pec_script.specs.Texts.{refused_text};
 ghost use Rattle.pec_top.specs.Saying.{CanBePlayed, IsLineSaid, IsSaid, end_past, last_of};
 
@@ -43,8 +43,8 @@ impl Said {
         line: &[u8],
     ) -> Result<Said, NoMemory>
         requires { found ≡ Found.Line → length (content_of line.now) ≤ longest_line }
-        ensures says { (finds : Finds) → IfOk result (λ said.
-            IsSaid finds (providers_of directory.now) number found line.now said) }
+        ensures says { (spare : Option Patterns) → IfOk result (λ said.
+            IsSaid (providers_of directory.now) number spare found line.now said) }
         ensures can { IfOk result (λ said. CanBePlayed (length directory.now) said) }
         ensures few { IfOk result (λ said. last_of said ≡ None → number ≤ most_lines) }
         ensures done { IfOk result (λ said. last_of said ≡ Some End.Done → found ≡ Found.End) }
@@ -70,8 +70,8 @@ impl Said {
         content: &[u8],
     ) -> Result<Said, NoMemory>
         requires { length content.now ≤ longest_line }
-        ensures says { (finds : Finds) (line : Bytes) → content_of line ≡ content.now → IfOk result (λ said.
-            IsLineSaid finds (providers_of directory.now) number line said) }
+        ensures says { (spare : Option Patterns) (line : Bytes) → content_of line ≡ content.now → IfOk result (λ said.
+            IsLineSaid (providers_of directory.now) number spare line said) }
         ensures can { IfOk result (λ said. CanBePlayed (length directory.now) said) }
         ensures few { IfOk result (λ said. last_of said ≡ None → number ≤ most_lines) }
         ensures done { IfOk result (λ said. last_of said ≢ Some End.Done) }

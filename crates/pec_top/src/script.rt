@@ -2,7 +2,6 @@ ghost use Rattle.std.specs.Prelude.{◌≡◌, ◌≤◌, map, IfOk, IsErrOf};
 ghost use Rattle.pec_outside.specs.Depots.{Alike};
 ghost use Rattle.pec_outside.specs.Flow.{behind};
 ghost use Rattle.pec_input.specs.Finding.{IsAtEnd};
-ghost use Rattle.pec_screen.specs.Screened.{finds_in};
 ghost use Rattle.pec_serving.specs.OfNetworks.{Keeps};
 ghost use Rattle.pec_top.specs.Blaming.{BlamesDevices};
 ghost use Rattle.pec_top.specs.Scripts.{ReadsOver};
@@ -25,21 +24,24 @@ pub(crate) fn play_script<
     D: Disk + Send,
     H: Sealer + Sync,
     P: Depot<D = D>,
-    J: Judge,
+    J: Judge + Send,
     S: Source,
     W: Sink,
 >(
     rt: &X,
     alloc: Global,
-    network: &mut Network<D, H>,
+    network: &mut Network<D, H, J>,
     depot: &mut P,
-    screens: &mut [J],
+    spares: &mut Vec<J::Spare>,
     source: &mut S,
     buffer: &mut Buffer,
     out: &mut W,
 ) -> Result<End, Stop>
+where
+    J::Spare: Send,
     // The script that is left was read, line by line, and its commands were played and written.
-    ensures read { ReadsOver (P.tells × D.tells) D.sight D.faults H.seals (finds_in (map J.patterns screens.old))
+    ensures read { ReadsOver (P.tells × D.tells) D.sight D.faults H.seals
+        (map J.spare_patterns spares.old.items) (map J.spare_patterns spares.new.items)
         network.old network.new (behind buffer.old (S.left source.old))
         (W.held out.old) (W.held out.new) (W.faults out.old) (W.faults out.new) (result_shown result) }
     ensures keeps { Keeps D.sight D.faults D.tells network.old network.new }
@@ -65,7 +67,7 @@ pub(crate) fn play_script<
                 continue 'lines;
             }
             Said::Command(command) => {
-                play_and_write(rt, alloc, network, depot, screens, command, out)?;
+                play_and_write(rt, alloc, network, depot, spares, command, out)?;
                 number += 1;
             }
             Said::Last(text, end) => {

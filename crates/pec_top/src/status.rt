@@ -1,8 +1,9 @@
 ghost use Rattle.std.specs.Prelude.{◌≡◌};
 ghost use Rattle.pec_runs.specs.Statuses.{code_of};
-ghost use Rattle.pec_top.specs.Shown.{end_shown, result_shown, status_shown, stop_shown};
+ghost use Rattle.pec_top.specs.Shown.{end_shown, log_shown, result_shown, status_shown, stop_shown};
 
 use crate::ending::{End, Stop};
+use pec_extract::ExtractFault;
 
 /// How a run of the program ended. This project's profile.
 #[derive(Clone, Copy, Debug, PartialEq, Eq)]
@@ -30,6 +31,10 @@ pub enum Status {
     DoorFault,
     /// The directory, a line or the number of lines is past its limit.
     InputTooLong,
+    /// A disk failed while an extract of logs was written.
+    DiskFault,
+    /// An entry isn't what was kept, of those that an extract of logs is of.
+    Changed,
 }
 
 impl Status {
@@ -50,6 +55,8 @@ impl Status {
             Status::ClockFault => 10,
             Status::DoorFault => 11,
             Status::InputTooLong => 12,
+            Status::DiskFault => 13,
+            Status::Changed => 14,
         }
     }
 }
@@ -89,5 +96,18 @@ fn stop_status(stop: Stop) -> Status
         Stop::StartFault => Status::StartFault,
         Stop::ClockFault => Status::ClockFault,
         Stop::DoorFault => Status::DoorFault,
+    }
+}
+
+/// The status of a run that wrote an extract of logs, or was stopped so.
+pub(crate) fn log_status(written: Result<(), ExtractFault>) -> Status
+    ensures shown { status_shown result ≡ log_shown written }
+{
+    match written {
+        Ok(_) => Status::Done,
+        Err(ExtractFault::NoMemory) => Status::NoMemory,
+        Err(ExtractFault::WriteFault) => Status::WriteFault,
+        Err(ExtractFault::DiskFault) => Status::DiskFault,
+        Err(ExtractFault::Changed(_)) => Status::Changed,
     }
 }

@@ -72,8 +72,9 @@ fn is_the_same_cut_up(rt: &impl System) -> bool {
 }
 
 // A journal is made by three calls of its disk, and an entry is appended by four. So those of a provider's first two
-// entries are 3 to 6 (its Start) and 7 to 10. The accepted one is read by call 11, for its envelope, and the next two
-// are appended by 12 to 15 and 16 to 19.
+// entries are 3 to 6 (its StartTwo) and 7 to 10. The accepted one is read by call 11, for its envelope, and the taken
+// one is appended by 12 to 15. That is read by call 16, as screens look at its message, and the decision is appended by
+// 17 to 20.
 
 const FAULTED: &str =
     "submit alfa 1704186000 alice@alfa.example anna@alfa.example {M1}\nround 1704186001\nround 1704186002\n\
@@ -114,23 +115,29 @@ const DECIDED_ONCE_RUN: [Run; 1] = [Run {
     status: Status::Done,
 }];
 
-static FIRST: [Case; 3] = [
+static FIRST: [Case; 4] = [
     Case {
-        why: "where the write of a decision fails it isn't in the journal, and is made again",
+        why: "where the read before a decision fails nothing is decided, and it is made once alfa started again",
         directory: Directory::Alfa,
         failing: &[(0, 16)],
         runs: &DECIDED_AGAIN_RUN,
     },
     Case {
-        why: "and where the sync behind it fails",
+        why: "where the write of a decision fails it isn't in the journal, and is made again",
         directory: Directory::Alfa,
         failing: &[(0, 17)],
         runs: &DECIDED_AGAIN_RUN,
     },
     Case {
-        why: "and where the write of its gate fails",
+        why: "and where the sync behind it fails",
         directory: Directory::Alfa,
         failing: &[(0, 18)],
+        runs: &DECIDED_AGAIN_RUN,
+    },
+    Case {
+        why: "and where the write of its gate fails",
+        directory: Directory::Alfa,
+        failing: &[(0, 19)],
         runs: &DECIDED_AGAIN_RUN,
     },
 ];
@@ -139,7 +146,7 @@ static SECOND: [Case; 3] = [
     Case {
         why: "where the last sync fails the decision is in the journal, and isn't made again",
         directory: Directory::Alfa,
-        failing: &[(0, 19)],
+        failing: &[(0, 20)],
         runs: &DECIDED_ONCE_RUN,
     },
     Case {

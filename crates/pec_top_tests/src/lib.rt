@@ -2,6 +2,8 @@
 #![tactic(auto)]
 
 #[cfg(test)]
+mod archives;
+#[cfg(test)]
 mod checking;
 #[cfg(test)]
 mod delivery;
@@ -10,9 +12,13 @@ mod directories;
 #[cfg(test)]
 mod disks;
 #[cfg(test)]
+mod extracting;
+#[cfg(test)]
 mod faults;
 #[cfg(test)]
 mod forgery;
+#[cfg(test)]
+mod incoming;
 #[cfg(test)]
 mod input;
 #[cfg(test)]
@@ -37,3 +43,5 @@ mod serving;
 mod shown;
 #[cfg(test)]
 mod three;
+#[cfg(test)]
+mod versions;

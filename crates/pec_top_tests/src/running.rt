@@ -6,7 +6,7 @@ use base64::engine::general_purpose::STANDARD;
 use pec_outside::{
     Depot, Door, MemDepot, MemDoor, MemSink, MemSource, MemTicks, Sink, Source, Ticks,
 };
-use pec_screen::Screens;
+use pec_screen::{Screen, Screens};
 use pec_top::{Status, run_pec};
 use pec_types::Moment;
 use std::alloc::Global;
@@ -163,7 +163,20 @@ pub(crate) fn ran_under<P: Depot>(
     ran_at(rt, depot, &mut door, given, screens)
 }
 
-/// Runs the program over a depot and at a door.
+/// The same with spares, of which the last is used first.
+pub(crate) fn ran_with_spares<P: Depot>(
+    rt: &impl System,
+    depot: &mut P,
+    given: &Given<'_>,
+    screens: Vec<Screens>,
+    spares: Vec<Box<dyn Screen>>,
+) -> Ran {
+    let alloc = rt.alloc();
+    let mut door = MemDoor::new(alloc, Vec::new(alloc), Vec::new(alloc), Vec::new(alloc));
+    ran_under_all(rt, depot, &mut door, given, screens, spares)
+}
+
+/// Runs the program over a depot and at a door, without spares.
 pub(crate) fn ran_at<P: Depot>(
     rt: &impl System,
     depot: &mut P,
@@ -171,8 +184,19 @@ pub(crate) fn ran_at<P: Depot>(
     given: &Given<'_>,
     screens: Vec<Screens>,
 ) -> Ran {
+    ran_under_all(rt, depot, door, given, screens, Vec::new(rt.alloc()))
+}
+
+fn ran_under_all<P: Depot>(
+    rt: &impl System,
+    depot: &mut P,
+    door: &mut MemDoor,
+    given: &Given<'_>,
+    screens: Vec<Screens>,
+    spares: Vec<Box<dyn Screen>>,
+) -> Ran {
     match clock(rt.alloc(), given.clock) {
-        Some(ticks) => ran_by(rt, depot, door, ticks, given, screens),
+        Some(ticks) => ran_by(rt, depot, door, ticks, given, screens, spares),
         None => Ran {
             text: Vec::new(rt.alloc()),
             status: Status::NoMemory,
@@ -187,6 +211,7 @@ fn ran_by<P: Depot>(
     mut ticks: MemTicks,
     given: &Given<'_>,
     screens: Vec<Screens>,
+    spares: Vec<Box<dyn Screen>>,
 ) -> Ran {
     let alloc = rt.alloc();
     let words = strings(alloc, given.words);
@@ -201,6 +226,7 @@ fn ran_by<P: Depot>(
         &mut ticks,
         door,
         screens,
+        spares,
     );
     Ran {
         text: copied(alloc, sink.bytes()),
@@ -218,6 +244,7 @@ fn status_of<S: Source, W: Sink, P: Depot, T: Ticks, R: Door>(
     ticks: &mut T,
     door: &mut R,
     screens: Vec<Screens>,
+    spares: Vec<Box<dyn Screen>>,
 ) -> Status {
     run_pec(
         rt,
@@ -229,6 +256,7 @@ fn status_of<S: Source, W: Sink, P: Depot, T: Ticks, R: Door>(
         ticks,
         door,
         screens,
+        spares,
     )
 }
 

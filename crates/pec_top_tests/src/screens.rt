@@ -102,12 +102,13 @@ pub(crate) fn screens_of(alloc: Global, named: &[usize], lists: usize) -> Vec<Sc
 fn list(alloc: Global, has_one: bool) -> Result<Screens, AllocError> {
     let mut boxes: Vec<Box<dyn Screen>> = Vec::new(alloc);
     if has_one {
-        boxes.push(Box::new(alloc, pattern_screen(alloc)?)?)?;
+        boxes.push(Box::new(alloc, screen_of(alloc, b"PEC-VIRUS-DI-PROVA")?)?)?;
     }
     Ok(Screens::new(boxes))
 }
 
-fn pattern_screen(alloc: Global) -> Result<PatternScreen, AllocError> {
-    let pattern = Text8::of(Vec::from_slice(alloc, b"PEC-VIRUS-DI-PROVA")?);
+/// A screen of one pattern.
+pub(crate) fn screen_of(alloc: Global, pattern: &[u8]) -> Result<PatternScreen, AllocError> {
+    let pattern = Text8::of(Vec::from_slice(alloc, pattern)?);
     Ok(PatternScreen::new(vec![in alloc; pattern]?))
 }

@@ -28,9 +28,9 @@ restarted 1\nround\nround\nround\nround\nround\nround\nround\nround\nmailbox 0\n
 const NOTHING_RESUMED: &[u8] =
     b"up\nround\nround\nround\nround\nround\nround\nround\nround\nmailbox 0\nmailbox 0\n";
 
-/// Alfa's journal has seven entries then. It is made by three calls of its disk, an entry is appended by four, and
-/// eight letters are put, for each of which an entry is read.
-const CALLS: u64 = 39;
+/// Alfa's journal has seven entries then. It is made by three calls of its disk, and an entry is appended by four; an
+/// entry is read for each of eight letters that are put, and for what screens look at.
+const CALLS: u64 = 40;
 
 /// It is opened by a sync, its size, its header, eight gates and seven entries.
 const OPENING_CALLS: u64 = 18;

@@ -1,5 +1,5 @@
-//! Journals of which a byte reads otherwise than it was written, while the program runs: bytes of an entry of each kind.
-//! What is composed of such an entry is told as changed; or it can't be seen that it changed, and no line is
+//! Journals of which a byte reads otherwise than it was written, while the program runs: bytes of an entry of each
+//! kind. What is composed of such an entry is told as changed; or it can't be seen that it changed, and no line is
 //! another, but for items that are shown.
 
 use crate::faults::false_disks::FalseDepot;

@@ -45,9 +45,9 @@ impl Drop for Disks {
 /// How many pairs of images were resumed, over all commands: two for each number of calls of alfa's disk within the
 /// command, with two for each of beta's. An entry is appended by four calls, and a letter that is put takes one that
 /// reads. The submission is an entry of alfa. In the first round alfa puts a letter; in the second too, and beta has
-/// two entries and puts two; in the third alfa has two entries and puts one, and beta puts two; in the fourth alfa puts
-/// one, and beta has an entry.
-const PAIRS: u64 = 284;
+/// two entries, reads the first of them for its screens, and puts two; in the third alfa has two entries and puts one,
+/// and beta puts two; in the fourth alfa puts one, and beta has an entry.
+const PAIRS: u64 = 292;
 
 #[test]
 fn every_image_within_a_command_is_resumed(rt: HostRuntime) {

@@ -1,5 +1,5 @@
 //! A message within alfa to its end, where each read of an entry fails in turn of which a letter or an item is
-//! composed. Alfa is down then, until it starts again.
+//! composed, or whose message screens look at. Alfa is down then, until it starts again.
 
 use crate::directories::Directory;
 use crate::faults::calls::{AGAIN, DELIVERED, FIRST, calls_behind};
@@ -47,8 +47,9 @@ fn is_read_again(rt: &impl System) -> Option<bool> {
     )
 }
 
-/// A round in which letters are put: the number of the first call of alfa's disk that reads an entry for them, how many
-/// it makes, and what is written up to the restart where one of them fails.
+/// A round in which entries are read: the number of the first call of alfa's disk that reads one for the letters that
+/// are put, or for what screens look at; how many it makes; and what is written up to the restart where one of them
+/// fails.
 #[derive(Clone, Copy)]
 struct Round {
     first: u64,
@@ -57,7 +58,7 @@ struct Round {
 }
 
 /// The journal is made by three calls, an entry is appended by four, and a letter is composed of one that is read.
-static ROUNDS: [Round; 4] = [
+static ROUNDS: [Round; 5] = [
     Round {
         first: 11,
         reads: 1,
@@ -65,15 +66,23 @@ static ROUNDS: [Round; 4] = [
                  alfa down\nround\nalfa down\nround\nalfa down\nround\nalfa down\nround\n\
                  down\ndown\ndown\nrestarted 2\n",
     },
+    // screens look before the decision
     Round {
-        first: 20,
+        first: 16,
+        reads: 1,
+        output: "accepted I0\nalfa sent alfa 1\nround\n\
+                 alfa took I0\nalfa fault disk\nround\n\
+                 alfa down\nround\nalfa down\nround\nalfa down\nround\ndown\ndown\ndown\nrestarted 3\n",
+    },
+    Round {
+        first: 21,
         reads: 3,
         output: "accepted I0\nalfa sent alfa 1\nround\n\
                  alfa took I0\nalfa decided I0 anna@alfa.example delivered\nalfa fault disk\nround\n\
                  alfa down\nround\nalfa down\nround\nalfa down\nround\ndown\ndown\ndown\nrestarted 4\n",
     },
     Round {
-        first: 31,
+        first: 32,
         reads: 3,
         output: "accepted I0\nalfa sent alfa 1\nround\n\
                  alfa took I0\nalfa decided I0 anna@alfa.example delivered\nalfa sent alfa 3\nround\n\
@@ -81,7 +90,7 @@ static ROUNDS: [Round; 4] = [
                  alfa fault disk\nround\nalfa down\nround\nalfa down\nround\ndown\ndown\ndown\nrestarted 6\n",
     },
     Round {
-        first: 38,
+        first: 39,
         reads: 1,
         output: "accepted I0\nalfa sent alfa 1\nround\n\
                  alfa took I0\nalfa decided I0 anna@alfa.example delivered\nalfa sent alfa 3\nround\n\

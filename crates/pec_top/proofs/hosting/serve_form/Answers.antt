@@ -2,7 +2,6 @@
 use Rattle.std.proofs.Common.{map, ◌∙◌, [], refl, sym}
 use Rattle.std.proofs.lemmas.Result.{err_from_is_err_and}
 use Rattle.pec_runs.specs.Openings.{Resume}
-use Rattle.pec_screen.specs.Screened.{finds_in}
 use Rattle.pec_service.specs.Runs.{Asked, Outside}
 use Rattle.pec_top.specs.Shown.{result_shown, stop_shown}
 use Rattle.pec_top.proofs.EndLemmas.{halted_told, last_told}
@@ -14,7 +13,7 @@ use Rattle.pec_top.proofs.hosting.serve_form.Goals as goal
 
 pub returns-in_err-directory-clause-served : goal.returns-in_err-directory-clause-served
 returns-in_err-directory-clause-served g c =
-    let asked : Asked = record { wanted = c.args.wanted; finds = finds_in (map g.J.Judge.patterns c.args.screens.items) } in
+    let asked : Asked = record { wanted = c.args.wanted; screens = map g.J.Judge.patterns c.args.screens.items } in
     let tells = g.P.Depot.tells × g.P.D.Disk.tells in
     let home = g.P.Depot.home c.args.depot.now in
     let last = g.P.Depot.last c.args.depot.now in
@@ -38,7 +37,7 @@ returns-in-Opens-clause-served g c =
 
 pub returns-in-Ends-clause-served : goal.returns-in-Ends-clause-served
 returns-in-Ends-clause-served g c =
-    let asked : Asked = record { wanted = c.args.wanted; finds = finds_in (map g.J.Judge.patterns c.args.screens.items) } in
+    let asked : Asked = record { wanted = c.args.wanted; screens = map g.J.Judge.patterns c.args.screens.items } in
     let tells = g.P.Depot.tells × g.P.D.Disk.tells in
     let home = g.P.Depot.home c.args.depot.now in
     let last = g.P.Depot.last c.args.depot.now in

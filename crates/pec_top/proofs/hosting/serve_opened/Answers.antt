@@ -1,5 +1,5 @@
 -- All journals are had, and connections are served; or not all are.
-use Rattle.std.proofs.Common.{map, ◌<◌, ◌∙◌, ℕ, inl, inr, ap, arith, refl, sym, subst, List, length, false}
+use Rattle.std.proofs.Common.{map, [], ◌<◌, ◌∙◌, ℕ, inl, inr, ap, arith, refl, sym, subst, List, length, false}
 use Rattle.std.proofs.lemmas.Bool.{cases_lt}
 use Rattle.std.proofs.lemmas.List.{length-map}
 use Rattle.pec_directory.specs.Directory.{Kept, providers_of}
@@ -9,7 +9,6 @@ use Rattle.pec_serving.specs.OfNetworks.{counts_in, journals_had, sites, state_i
 use Rattle.pec_runs.specs.Happened.{Setting, trade_in}
 use Rattle.pec_runs.specs.Openings.{NoMore, disks_at}
 use Rattle.pec_runs.specs.Statuses.{Status}
-use Rattle.pec_screen.specs.Screened.{finds_in}
 use Rattle.pec_service.specs.Runs.{Asked, Blames, Course, IsChosen, Outside, TellsService, first_place, place_with}
 use Rattle.pec_service.specs.Services.{IsService, service_text}
 use Rattle.pec_serving.specs.Playing.{state_of}
@@ -26,7 +25,7 @@ use Rattle.pec_top.proofs.hosting.serve_opened.Goals as goal
 
 pub returns-in-Ok-clause-served : goal.returns-in-Ok-clause-served
 returns-in-Ok-clause-served g c = λ unread rest whole.
-    let asked : Asked = record { wanted = c.args.wanted; finds = finds_in (map g.J.Judge.patterns c.args.screens.items) } in
+    let asked : Asked = record { wanted = c.args.wanted; screens = map g.J.Judge.patterns c.args.screens.items } in
     let tells = g.P.Depot.tells × g.P.D.Disk.tells in
     let sight = g.P.D.Disk.sight in
     let faults = g.P.D.Counted.faults in
@@ -87,11 +86,11 @@ returns-in-Ok-clause-served g c = λ unread rest whole.
         counts = counts;
         sooner = opened.counts;
         network = state_of faults mid_last served;
-        is = subst (λ (s : List Site). IsService trade tells kept asked.finds asked.wanted
+        is = subst (λ (s : List Site). IsService trade tells kept asked.wanted
             (place_with (record { sites = s; counts = counts }) here)
             (place_with (state_of faults mid_last served) there) serves.service) opened.begins serves.is;
         told = subst (λ (s : Status). TellsService s before after (service_text trade kept
-            (first_place trade journals counts here) serves.service) serves.service.ending) (sym c.ended.ensures)
+            (first_place trade asked.screens journals counts here) serves.service) serves.service.ending) (sym c.ended.ensures)
             (subst (λ (s : List Site). TellsService (ended_as ending) before after (service_text trade kept
             (place_with (record { sites = s; counts = counts }) here) serves.service) serves.service.ending) opened.begins
             (told_as ending before after (service_text trade kept
@@ -103,8 +102,8 @@ returns-in-Ok-clause-served g c = λ unread rest whole.
     })
     refl
     (record {
-      first = state_in faults mid_last network;
-      last = state_in faults mid_last served;
+      first = state_in faults mid_last [] network;
+      last = state_in faults mid_last [] served;
       begins = opened.begins;
       seen = all_seen g.P.Depot.tells g.P.D.Disk.tells sight network c.a_network_is_whole.ensures;
       stand = λ told. all_stand g.P.Depot.tells g.P.D.Disk.tells sight network c.a_network_is_whole.ensures
@@ -161,7 +160,7 @@ returns-in-Ok-clause-home g c = λ told k some.
 
 pub returns-in-Err-clause-served : goal.returns-in-Err-clause-served
 returns-in-Err-clause-served g c = λ unread rest taken.
-    let asked : Asked = record { wanted = c.args.wanted; finds = finds_in (map g.J.Judge.patterns c.args.screens.items) } in
+    let asked : Asked = record { wanted = c.args.wanted; screens = map g.J.Judge.patterns c.args.screens.items } in
     let tells = g.P.Depot.tells × g.P.D.Disk.tells in
     let sight = g.P.D.Disk.sight in
     let here : Outside = record {

@@ -1,5 +1,5 @@
 -- All journals are had; or memory ran out before, or a disk couldn't be looked at, or one came to nothing.
-use Rattle.std.proofs.Common.{◌∙◌, ℕ, ap, refl, sym, subst, List, length, arith}
+use Rattle.std.proofs.Common.{◌∙◌, ℕ, ap, map, refl, sym, subst, List, length, arith}
 use Rattle.std.proofs.lemmas.Result.{err_from_is_err_and}
 use Rattle.pec_directory.specs.Directory.{Kept, providers_of}
 use Rattle.pec_seal.specs.Hmac.{hmac_seals}
@@ -83,7 +83,8 @@ returns-in-Ok-begin-clause-opened g c =
     network.sealer) (sym same.0)
     (subst (λ (s : HmacSealer). Known tells reads sight seals_of how form home looked network.providers kept s) (sym same.1)
     known) in
-    opened_so tells reads sight seals_of g.P.D.Counted.faults how form home looked (g.P.Depot.home c.begin.new.depot)
+    opened_so tells reads sight seals_of g.P.D.Counted.faults
+    (map g.J.Judge.patterns c.args.screens.items) how form home looked (g.P.Depot.home c.begin.new.depot)
     (g.P.Depot.last c.args.depot.now) (g.P.Depot.last c.form_of.new.depot) (g.P.Depot.last c.begin.new.depot) network
     of_its_own c.form_of.ensures.rest c.a_disk_is_so.ensures.reads c.a_disk_is_so.ensures.counts c.in-Ok-begin.ensures.rests
     (λ told. c.in-Ok-begin.ensures.out told) c.in-Ok-begin.ensures.counts c.in-Ok-begin.ensures.last c.form_of.ensures.last
@@ -120,7 +121,7 @@ returns-in-Err-clause-refused g c =
     let so = subst (λ (k : List Kept). IsRefusedSo how (providers_of k) fault (disks_at (tells × reads) sight mid)
     c.refuse.result) c.in-Err.ensures.given_back c.refuse.ensures.refused in
     Refused seals (refused_at tells reads sight kept seals
-    (c.a_trade_says_what_its_parts_say.ensures.directory kept seals) how home looked mid
+    (c.a_trade_says_what_its_parts_say.ensures.directory kept seals) (map g.J.Judge.patterns c.args.screens.items) how home looked mid
     (g.P.Depot.home c.refuse.new.depot) form fault c.refuse.result refused c.a_disk_is_so.ensures.reads
     c.a_disk_is_so.ensures.counts c.form_of.ensures.rest c.refuse.ensures.rest is_form setting so)
 

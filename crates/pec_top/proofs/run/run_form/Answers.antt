@@ -2,7 +2,6 @@
 use Rattle.std.proofs.Common.{◌∙◌, [], false, map, sym}
 use Rattle.std.proofs.lemmas.Result.{err_from_is_err_and}
 use Rattle.pec_runs.specs.Openings.{Resume}
-use Rattle.pec_screen.specs.Screened.{finds_in}
 use Rattle.pec_runs.specs.Happened.{Asked}
 use Rattle.pec_top.specs.Shown.{form_shown, result_shown, stop_shown}
 use Rattle.pec_top.proofs.EndLemmas.{halted_told, last_told}
@@ -10,7 +9,7 @@ use Rattle.pec_top.proofs.FlowLemmas.{followed_by-nil}
 use Rattle.pec_top.proofs.HadFromLemmas.{had_none}
 use Rattle.pec_top.proofs.InputLemmas.{all_read_behind, behind_nothing}
 use Rattle.pec_top.proofs.ReportLemmas.{unreported}
-use Rattle.pec_top.proofs.RunningLemmas.{untouched}
+use Rattle.pec_top.proofs.RunningLemmas.{no_hands, untouched}
 use Rattle.pec_top.proofs.ThroughLemmas.{halted_through, over_through}
 use Rattle.pec_top.proofs.run.run_form.Goals as goal
 
@@ -18,7 +17,8 @@ pub returns-in_err-directory-clause-ran : goal.returns-in_err-directory-clause-r
 returns-in_err-directory-clause-ran g c = λ words is.
     let asked : Asked = record {
       words = words;
-      finds = finds_in (map g.J.Judge.patterns c.args.screens.now);
+      screens = map g.J.Judge.patterns c.args.screens.items;
+      spares = map g.J.Judge.spare_patterns c.args.spares.items;
     } in
     let tells = g.P.Depot.tells × g.P.D.Disk.tells in
     let home = g.P.Depot.home c.args.depot.now in
@@ -44,11 +44,12 @@ returns-in-Opens-clause-all_read g c =
     all_read_behind c.run_opened.result c.run_opened.new.buffer (g.S.Stream.left c.run_opened.new.source)
     c.run_opened.ensures.all_read
 
-pub returns-clause-ran : goal.returns-clause-ran
-returns-clause-ran g c = λ words is.
+pub returns-in-Ends-clause-ran : goal.returns-in-Ends-clause-ran
+returns-in-Ends-clause-ran g c = λ words is.
     let asked : Asked = record {
       words = words;
-      finds = finds_in (map g.J.Judge.patterns c.args.screens.now);
+      screens = map g.J.Judge.patterns c.args.screens.items;
+      spares = map g.J.Judge.spare_patterns c.args.spares.items;
     } in
     let tells = g.P.Depot.tells × g.P.D.Disk.tells in
     let home = g.P.Depot.home c.args.depot.now in
@@ -60,7 +61,7 @@ returns-clause-ran g c = λ words is.
     unreported tells g.P.D.Disk.sight asked (result_shown c.write_last.result) unread before after home home last last
     c.args.report.now
     (over_through asked unread before after tells g.P.D.Disk.sight home home last last (untouched tells g.P.D.Disk.sight home)
-    (λ trade. had_none tells g.P.D.Disk.sight Resume trade home) over.parts false over.end (result_shown c.write_last.result) (over.stage asked (form_shown c.args.form) is)
+    (λ trade. had_none tells g.P.D.Disk.sight Resume trade home) over.parts false over.end (result_shown c.write_last.result) (over.stage asked no_hands (form_shown c.args.form) is)
     over.input (last_told over.end c.in-Ends.end over.shown before after _ (c.deref.ensures.value ∙ over.text_is [])
     c.write_last.result c.write_last.ensures.ok c.write_last.ensures.err
     c.write_last.ensures.stop))

@@ -1,5 +1,5 @@
 -- All journals are had, and the script is played; or not all are.
-use Rattle.std.proofs.Common.{map, ◌∙◌, inl, inr, ap, arith, sym, subst, List, length, Some}
+use Rattle.std.proofs.Common.{map, ◌∙◌, inl, inr, ap, arith, refl, sym, subst, List, length, Some}
 use Rattle.std.proofs.lemmas.Bool.{cases_lt}
 use Rattle.std.proofs.lemmas.List.{length-map}
 use Rattle.pec_outside.specs.Flow.{behind}
@@ -8,7 +8,6 @@ use Rattle.pec_serving.specs.OfNetworks.{journals_had, point_of, sites}
 use Rattle.pec_seal.specs.Hmac.{hmac_seals}
 use Rattle.pec_runs.specs.Happened.{Asked, Setting}
 use Rattle.pec_runs.specs.Openings as runs
-use Rattle.pec_screen.specs.Screened.{finds_in}
 use Rattle.pec_top.specs.Inputs.{IsTaken}
 use Rattle.pec_top.specs.Scripts.{AreKept}
 use Rattle.pec_top.specs.Shown.{result_shown}
@@ -22,7 +21,11 @@ use Rattle.pec_top.proofs.run.run_opened.Goals as goal
 
 pub returns-in-Ok-clause-ran : goal.returns-in-Ok-clause-ran
 returns-in-Ok-clause-ran g c = λ words unread is taken.
-    let asked : Asked = record { words = words; finds = finds_in (map g.J.Judge.patterns c.args.screens.now) } in
+    let asked : Asked = record {
+      words = words;
+      screens = map g.J.Judge.patterns c.args.screens.items;
+      spares = map g.J.Judge.spare_patterns c.args.spares.items;
+    } in
     let tells = g.P.Depot.tells × g.P.D.Disk.tells in
     let sight = g.P.D.Disk.sight in
     let faults = g.P.D.Counted.faults in
@@ -44,8 +47,9 @@ returns-in-Ok-clause-ran g c = λ words unread is taken.
     let keeps = c.play_script-result.ensures.keeps in
     let closed = closed_so faults mid_last (g.P.Depot.last c.play_script-result.new.depot)
     (g.P.Depot.last c.close.new.depot) played.providers c.play_script-result.ensures.last c.close.ensures.last in
-    let point = point_of faults mid_last network before (g.W.Counted.faults c.args.out.now) in
-    let there = point_of faults mid_last played after (g.W.Counted.faults c.play_script-result.new.out) in
+    let point = point_of faults mid_last asked.spares network before (g.W.Counted.faults c.args.out.now) in
+    let there = point_of faults mid_last (map g.J.Judge.spare_patterns c.play_script-result.new.spares.items) played
+    after (g.W.Counted.faults c.play_script-result.new.out) in
     let kept_so = subst (λ (k : List Kept). AreKept tells sight (length k) (sites played) mid new) keeps.directory
     (all_kept_so g.P.Depot.tells g.P.D.Disk.tells sight played c.a_network_is_whole-in-Ok.ensures late new
     c.close.ensures.kept mid (λ told. keeps.stands told.1 (opened.stands told)) c.play_script-result.ensures.home) in
@@ -54,7 +58,8 @@ returns-in-Ok-clause-ran g c = λ words unread is taken.
     script_told asked opened.form (is ∙ ap (λ (f : runs.Form). Some f) (sym opened.is_form)) here.bytes here.short
     setting here.reads opened.setting tells sight old new (g.P.Depot.last c.args.depot.now)
     (g.P.Depot.last c.close.new.depot) (journals_had network.providers) (result_shown c.play_script-result.result) unread
-    (behind c.args.buffer.now (g.S.Stream.left c.args.source.now)) point there opened.begins opened.counts
+    (behind c.args.buffer.now (g.S.Stream.left c.args.source.now)) point there opened.begins refl
+    opened.counts
     (λ k. let e = closed k in omega (arith, e)) here.parts opened.opening
     (c.play_script-result.ensures.read opened.stands mid_last)
     (λ left is_left. opened.leaves (sites played) left new is_left kept_so)
@@ -97,7 +102,11 @@ returns-in-Ok-clause-disks g c =
 
 pub returns-in-Err-clause-ran : goal.returns-in-Err-clause-ran
 returns-in-Err-clause-ran g c = λ words unread is taken.
-    let asked : Asked = record { words = words; finds = finds_in (map g.J.Judge.patterns c.args.screens.now) } in
+    let asked : Asked = record {
+      words = words;
+      screens = map g.J.Judge.patterns c.args.screens.items;
+      spares = map g.J.Judge.spare_patterns c.args.spares.items;
+    } in
     let tells = g.P.Depot.tells × g.P.D.Disk.tells in
     let sight = g.P.D.Disk.sight in
     unreported tells sight asked (result_shown c.end_refused.result) unread (g.W.Stream.held c.args.out.now)

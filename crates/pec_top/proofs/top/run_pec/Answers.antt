@@ -9,13 +9,12 @@ use Rattle.pec_runs.specs.Openings.{Resume}
 use Rattle.pec_runs.specs.Ran.{Counts}
 use Rattle.pec_runs.specs.Statuses.{Status}
 use Rattle.pec_runs.specs.Through.{RanThrough}
-use Rattle.pec_screen.specs.Screened.{finds_in}
 use Rattle.pec_top.specs.Shown.{form_shown, result_shown}
 use Rattle.pec_top.specs.Tasks.{reads_input}
 use Rattle.pec_top.specs.declared.ending.End.TheVariants as lasts
 use Rattle.pec_top.proofs.EndLemmas.{last_told}
 use Rattle.pec_top.proofs.HadFromLemmas.{had_none}
-use Rattle.pec_top.proofs.RunningLemmas.{parts_there, stage_usage, untouched}
+use Rattle.pec_top.proofs.RunningLemmas.{no_hands, parts_there, stage_usage, untouched}
 use Rattle.pec_top.proofs.SaidLemmas.{usage_text}
 use Rattle.pec_top.proofs.ThroughLemmas.{counted_through, over_through, whole_through}
 use Rattle.pec_top.proofs.TopLemmas.{blames_result, blames_written, done_only, ended_read, form_none, form_played}
@@ -25,7 +24,11 @@ use Rattle.pec_top.proofs.top.run_pec.Goals as goal
 pub returns-in-Play-clause-ran : goal.returns-in-Play-clause-ran
 returns-in-Play-clause-ran g c =
     let words : List Bytes = map string_bytes c.args.words.now in
-    let asked : Asked = record { words = words; finds = finds_in (map g.J.Judge.patterns c.args.screens.items) } in
+    let asked : Asked = record {
+      words = words;
+      screens = map g.J.Judge.patterns c.args.screens.items;
+      spares = map g.J.Judge.spare_patterns c.args.spares.items;
+    } in
     let tells = g.P.Depot.tells × g.P.D.Disk.tells in
     let old_home = g.P.Depot.home c.args.depot.now in
     let new_home = g.P.Depot.home c.run_form.new.depot in
@@ -47,7 +50,7 @@ returns-in-Play-clause-ran g c =
     let run = c.run_form.result in
     let form = form_shown c.in-Play.form in
     let of = c.run_form.ensures in
-    let ran = rw c.as_mut_slice.ensures.value at of.ran words (form_played words form c.in-Play.ensures.shown) in
+    let ran = of.ran words (form_played words form c.in-Play.ensures.shown) in
     let so = counted_through run asked unread before after tells g.P.D.Disk.sight old_home new_home old new
     of.blame of.disks.0 of.disks.1 of.disks.2 ran.ran in
     record {
@@ -170,10 +173,27 @@ returns-in-Check-clause-alone g c = rw (← c.in-Check.ensures.shown) (record {
   apart = λ other. (refl, refl);
 })
 
+pub returns-in-Extract-clause-ran : goal.returns-in-Extract-clause-ran
+returns-in-Extract-clause-ran g c =
+    let of = c.extract_form.ensures in
+    record {
+      is_run = rw (← c.in-Extract.ensures.shown) (record { ran = of.ran; blame = of.counts.0; counts = of.counts.1 });
+      all_read = λ done reads. of.all_read done;
+      closed = refl;
+      home = of.home;
+    }
+
+pub returns-in-Extract-clause-alone : goal.returns-in-Extract-clause-alone
+returns-in-Extract-clause-alone g c = rw (← c.in-Extract.ensures.shown) (record {
+  unread = λ other. absurd (false≢true (sym other));
+  undisturbed = λ other. absurd (false≢true (sym other));
+  apart = λ other. (refl, refl);
+})
+
 pub returns-in-Load-clause-ran : goal.returns-in-Load-clause-ran
 returns-in-Load-clause-ran g c =
     let of = c.load_form.ensures in
-    let loaded = rw c.as_mut_slice-in-Load.ensures.value at of.loaded (g.S.Counted.faults c.args.input.now) in
+    let loaded = of.loaded (g.S.Counted.faults c.args.input.now) in
     record {
       is_run = rw (← c.in-Load.ensures.shown, c.status_of-in-Load.ensures.shown) loaded;
       all_read = λ done reads. absurd (false≢true (ap reads_input c.in-Load.ensures.shown ∙ reads));
@@ -191,7 +211,11 @@ returns-in-Load-clause-alone g c = rw (← c.in-Load.ensures.shown) (record {
 pub returns-in-NoForm-clause-ran : goal.returns-in-NoForm-clause-ran
 returns-in-NoForm-clause-ran g c =
     let words : List Bytes = map string_bytes c.args.words.now in
-    let asked : Asked = record { words = words; finds = finds_in (map g.J.Judge.patterns c.args.screens.items) } in
+    let asked : Asked = record {
+      words = words;
+      screens = map g.J.Judge.patterns c.args.screens.items;
+      spares = map g.J.Judge.spare_patterns c.args.spares.items;
+    } in
     let tells = g.P.Depot.tells × g.P.D.Disk.tells in
     let home = g.P.Depot.home c.args.depot.now in
     let last = g.P.Depot.last c.args.depot.now in
@@ -215,7 +239,7 @@ returns-in-NoForm-clause-ran g c =
     let parts = parts_there unread in
     let so = over_through asked unread before after tells g.P.D.Disk.sight home home last last
     (untouched tells g.P.D.Disk.sight home) (λ trade. had_none tells g.P.D.Disk.sight Resume trade home) parts.0
-    true ends.Usage (result_shown run) (stage_usage asked true parts.0 (form_none words c.in-NoForm.ensures.shown)) parts.1
+    true ends.Usage (result_shown run) (stage_usage asked no_hands true parts.0 (form_none words c.in-NoForm.ensures.shown)) parts.1
     (last_told ends.Usage lasts.Usage refl before after _ (sym (usage_text _)) run of.ok of.err of.stop) in
     let ran = whole_through asked (result_shown run) unread before after tells g.P.D.Disk.sight home home old new
     (blames_written run old new of.stop of.write_fault)

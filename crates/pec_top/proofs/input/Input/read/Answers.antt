@@ -20,7 +20,7 @@ returns-in_ok-text-in-TooLong-clause-read g c =
       end = ends.LongDirectory;
       parts = parts.parts;
       input = parts.input;
-      stage = λ asked form is. stage_long asked form parts.parts is parts.long;
+      stage = λ asked hands form is. stage_long asked hands form parts.parts is parts.long;
       text_is = λ providers. c.in_ok-text-in-TooLong.ensures ∙ sym (long_directory_text providers);
       shown = refl;
     }
@@ -35,7 +35,7 @@ returns-in_ok-text-in-NoScript-clause-read g c =
       end = ends.NoScript;
       parts = parts.parts;
       input = parts.input;
-      stage = λ asked form is. stage_unmarked asked form parts.parts is parts.short parts.none;
+      stage = λ asked hands form is. stage_unmarked asked hands form parts.parts is parts.short parts.none;
       text_is = λ providers. c.in_ok-text-in-NoScript.ensures ∙ sym (no_script_text providers);
       shown = refl;
     }
