@@ -134,6 +134,8 @@ KINDS = {
                      b"Il messaggio e' stato consegnato a %s."),
     "delivery-error": Kind(b"err", b"errore-consegna", b"AVVISO DI MANCATA CONSEGNA: ", b"altro",
                            b"Il messaggio non e' stato consegnato a %s: %s."),
+    "virus-found": Kind(b"vir", b"rilevazione-virus", b"PROBLEMA DI SICUREZZA: ", b"virus",
+                        b"Il messaggio per %s contiene un virus."),
     "warning": Kind(b"pre", b"preavviso-errore-consegna", LATE, b"altro", HEARD % b"Entro 12"),
     "notice": Kind(b"man", b"preavviso-errore-consegna", LATE, b"altro", HEARD % b"Entro 24"),
     "late-notice": Kind(b"man", b"preavviso-errore-consegna", LATE, b"altro", HEARD % b"Oltre 24"),
@@ -241,7 +243,7 @@ def envelope_fields(directory, said):
 
 
 def has_virus(said):
-    return said.kind == "non-acceptance" and said.detail == b"virus"
+    return said.kind in ("non-acceptance", "delivery-error") and said.detail == b"virus"
 
 
 def receipt_fields(directory, said):
@@ -257,7 +259,7 @@ def receipt_fields(directory, said):
         fields.append(b"X-TipoRicevuta: " + facts.wish)
     fields += [b"Message-ID: " + message_id(directory, said), b"X-Riferimento-Message-ID: <" + identity + b">"]
     to = facts.sender
-    if said.kind == "charge":
+    if said.kind in ("charge", "virus-found"):
         to = directory.houses[said.identity[0]].receipts
     elif said.kind == "ack":
         to = directory.houses[directory.home(said.recipient)].receipts

@@ -5,8 +5,10 @@ import struct
 import letters
 import texts
 
-OUTCOMES = {"delivered": 0, "no-mailbox": 1, "mailbox-full": 2}
+OUTCOMES = {"delivered": 0, "no-mailbox": 1, "mailbox-full": 2, "virus": 3}
 LINK = 64
+SCREEN, SPARE = b"PEC-VIRUS-DI-PROVA", b"PEC-VIRUS-DI-PROVA-2"
+SPARES = 4
 MARKS = {"warning": "warned", "notice": "noticed", "late-notice": "noticed-late"}
 
 
@@ -50,12 +52,16 @@ def list_bytes(addresses):
 
 
 class Network:
-    def __init__(self, directory):
+    """A network whose journals begin in these versions, 1 or 2, one for each provider."""
+
+    def __init__(self, directory, versions):
         self.directory = directory
         count = len(directory.houses)
         self.numbers = range(count)
         digest = directory.digest()
-        self.journals = [[b"\0" + struct.pack(">I", p) + digest] for p in self.numbers]
+        self.versions = list(versions)
+        firsts = {1: b"\0", 2: b"\x0a"}
+        self.journals = [[firsts[versions[p]] + struct.pack(">I", p) + digest] for p in self.numbers]
         self.last = [0] * count
         self.down = [False] * count
         self.links = {(p, q): [] for p in self.numbers for q in self.numbers}
@@ -65,10 +71,17 @@ class Network:
         self.taken = {}
         self.decided = [[] for _ in self.numbers]
         self.items = {one.address: [] for house in directory.houses for one in house.accounts}
+        self.vaults = {address: [] for address in self.items}
+        self.take_screens()
         self.view = {}
         # writes and reads of each journal are counted, and these fail, by provider and number; so many did
         self.writes, self.failing, self.faults = [0] * count, (), 0
         self.reads, self.unread, self.misses = [0] * count, (), 0
+
+    def take_screens(self):
+        """Each provider has one screen of one pattern, and spares are handed in with them."""
+        self.screens = [[[SCREEN]] for _ in self.numbers]
+        self.spares = [[SPARE] for _ in range(SPARES)]
 
     # What is read of the map.
 
@@ -85,6 +98,13 @@ class Network:
         account = self.directory.account(address)
         counted = sum(one.kind in ("envelope", "anomaly") for one in self.items[address])
         return counted < account.quota
+
+    def finds(self, provider, message):
+        return any(one in message for patterns in self.screens[provider] for one in patterns)
+
+    def all_items(self, address):
+        """What stands in the mailbox or in the archive of an account."""
+        return self.items[address] + self.vaults[address]
 
     def name(self, provider):
         return self.directory.houses[provider].name.decode()
@@ -112,11 +132,22 @@ class Network:
         return self.known_text(text, "charge", identity, by)
 
     def outcome(self, identity, by, recipient, decision, at, facts, original):
-        kind = "delivery" if decision == "delivered" else "delivery-error"
+        kind = {"delivered": "delivery", "virus": "virus-found"}.get(decision, "delivery-error")
         detail = None if decision == "delivered" else decision.encode()
         said = letters.Said(kind, identity, by, at, facts, recipient, detail)
         text = letters.certified(self.directory, said, original)
         return self.known_text(text, "outcome", identity, by, recipient, decision, at)
+
+    def error_of_virus(self, identity, by, recipient, at, facts):
+        """What tells a sender that a virus was found; it is no letter."""
+        said = letters.Said("delivery-error", identity, by, at, facts, recipient, b"virus")
+        return letters.certified(self.directory, said, None)
+
+    def outcome_path(self, identity, decision):
+        """Along which an outcome is sent: a virus is told to the message's provider."""
+        if decision == "virus":
+            return [self.directory.houses[identity[0]].receipts]
+        return [self.accepted[identity][1].sender]
 
     def ack(self, identity, by, recipient, at, facts):
         text = letters.acknowledgement(self.directory, letters.Said("ack", identity, by, at, facts, recipient))
@@ -170,7 +201,8 @@ class Network:
             raise Refused("no-account")
         self.may(provider, at)
         identity = (provider, self.messages[provider])
-        cause = texts.refused(message, sender, path, self.directory.houses[provider].limit)
+        limit, found = self.directory.houses[provider].limit, self.finds(provider, message)
+        cause = texts.refused(message, sender, path, limit, found)
         if cause is None:
             facts = texts.facts(texts.head(message)[0])
             self.append(provider, 1, at, short(sender) + long(message))
@@ -252,6 +284,7 @@ class Network:
     def resume(self):
         """The whole program stops and starts again on its journals."""
         self.down = [False] * len(self.numbers)
+        self.take_screens()
         for link in self.links.values():
             link.clear()
 
@@ -277,20 +310,68 @@ class Network:
         return lines + [f"book {len(lines)}"]
 
     def mailbox(self, address):
+        return self.listed(address, self.items, "mailbox")
+
+    def vault(self, address):
+        return self.listed(address, self.vaults, "vault")
+
+    def listed(self, address, boxes, word):
         self.own_provider(address)
         lines = []
-        for number, one in enumerate(self.items[address]):
+        for number, one in enumerate(boxes[address]):
             identity = "-" if one.identity is None else self.text(one.identity)
             recipient = "-" if one.recipient is None else one.recipient.decode()
             lines.append(f"{number} {one.kind} {identity} {recipient}")
-        return lines + [f"mailbox {len(lines)}"]
+        return lines + [f"{word} {len(lines)}"]
 
     def show(self, address, place):
+        return self.shown(address, self.items, place)
+
+    def vault_show(self, address, place):
+        return self.shown(address, self.vaults, place)
+
+    def shown(self, address, boxes, place):
         self.own_provider(address)
-        if place >= len(self.items[address]):
+        if place >= len(boxes[address]):
             raise Refused("no-item")
         self.read(self.directory.home(address))
-        return [letters.base64.b64encode(self.items[address][place].text).decode()]
+        return [letters.base64.b64encode(boxes[address][place].text).decode()]
+
+    # Archives.
+
+    def archive(self, address, at, place):
+        account = self.directory.account(address)
+        if account is None:
+            raise Refused("no-account")
+        provider = self.directory.home(address)
+        self.may(provider, at)
+        if place >= len(self.items[address]):
+            raise Refused("no-item")
+        if self.versions[provider] == 1:
+            raise Refused("old-journal")
+        self.append(provider, 12, at, short(address) + struct.pack(">I", place))
+        self.vaults[address].append(self.items[address].pop(place))
+        return ["archived"]
+
+    def upgrade(self, provider, at):
+        self.may(provider, at)
+        if self.versions[provider] == 2:
+            raise Refused("no-need")
+        self.append(provider, 11, at, b"")
+        self.versions[provider] = 2
+        return ["upgraded"]
+
+    # Screens.
+
+    def screen(self, provider, place):
+        if not self.spares:
+            raise Refused("no-spare")
+        if self.down[provider]:
+            raise Refused("down")
+        if place >= len(self.screens[provider]):
+            raise Refused("no-screen")
+        self.screens[provider][place] = self.spares.pop()
+        return ["screened"]
 
     # A round.
 
@@ -379,7 +460,7 @@ class Network:
         if identity[0] != provider or identity not in self.accepted or self.directory.home(recipient) != by:
             return None
         _, facts, _ = self.accepted[identity]
-        if recipient not in facts.recipients or path != [facts.sender]:
+        if recipient not in facts.recipients or path != self.outcome_path(identity, decision):
             return None
         row, pair = self.row(identity, recipient), f"{self.text(identity)} {recipient.decode()}"
         answer = f"repeat outcome {pair}"
@@ -388,7 +469,10 @@ class Network:
             self.append(provider, 6, at, fields + moment(when) + long(message))
             row.known = decision, when, at
             kind = "delivery" if decision == "delivered" else "delivery-error"
-            self.place(facts.sender, kind, identity, recipient, message)
+            text = message
+            if decision == "virus":
+                text = self.error_of_virus(identity, provider, recipient, at, facts)
+            self.place(facts.sender, kind, identity, recipient, text)
             answer = f"learned {pair} {decision}"
         back = self.ack(identity, provider, recipient, row.known[2], facts)
         owed[by].append(letters.frame([self.directory.houses[by].receipts], back))
@@ -420,18 +504,14 @@ class Network:
         return f"anomaly {len(mine)}"
 
     def decide(self, provider, at):
-        for (by, identity), (_, facts, _, message) in list(self.taken.items()):
+        for (by, identity), (_, facts, original, message) in list(self.taken.items()):
             if by != provider:
                 continue
             for recipient in self.directory.at(facts.recipients, provider):
                 row = self.row(identity, recipient)
                 if row.decided is not None:
                     continue
-                decision = "delivered"
-                if self.directory.account(recipient) is None:
-                    decision = "no-mailbox"
-                elif not self.has_room(recipient):
-                    decision = "mailbox-full"
+                decision = self.decision(provider, recipient, original)
                 fields = identity_bytes(identity) + short(recipient) + bytes([OUTCOMES[decision]])
                 self.append(provider, 4, at, fields)
                 row.decided = decision, at
@@ -439,6 +519,15 @@ class Network:
                 if decision == "delivered":
                     self.place(recipient, "envelope", identity, None, message)
                 yield f"decided {self.text(identity)} {recipient.decode()} {decision}"
+
+    def decision(self, provider, recipient, original):
+        """What is decided of a pair. Screens look where the recipient is an account, for which its entry is read."""
+        if self.directory.account(recipient) is None:
+            return "no-mailbox"
+        self.read(provider)
+        if self.finds(provider, original):
+            return "virus"
+        return "delivered" if self.has_room(recipient) else "mailbox-full"
 
     def due(self, provider, peer):
         """The outcomes and envelopes that are due to the peer."""
@@ -448,7 +537,8 @@ class Network:
             if identity[0] == peer and row.acked is None:
                 _, facts, original, _ = self.taken[provider, identity]
                 text = self.outcome(identity, provider, recipient, *row.decided, facts, original)
-                frames.append(letters.frame([facts.sender], text))
+                path = [self.directory.houses[peer].receipts] if row.decided[0] == "virus" else [facts.sender]
+                frames.append(letters.frame(path, text))
         for identity in sorted(one for one in self.accepted if one[0] == provider):
             theirs = self.directory.at(self.accepted[identity][1].recipients, peer)
             rows = [self.row(identity, one) for one in theirs]

@@ -21,12 +21,20 @@ FORMS = {
     b"book": "address",
     b"mailbox": "address",
     b"show": "address number",
+    b"archive": "address moment number",
+    b"upgrade": "provider moment",
+    b"vault": "address",
+    b"vault-show": "address number",
+    b"screen": "provider number",
 }
 # No commands, each with its own fault.
 WRONG = (
     b"rounds 1|round|round 1 2|round 01|round +1|round 4102444800|round  1| round 1|tick gamm 1|tick NAME x|crash Name|"
     b"lose NAME NAME 4294967296|book bob|show|SHOW a 1|show ACCOUNT -1|inject NAME NAME ???|inject NAME x YQ==|"
-    b"inject NAME NAME YQ=|submit NAME 1|submit NAME 1 ACCOUNT ACCOUNT,, YQ==|submit x 01 a b ?|submit NAME 1 a b ?"
+    b"inject NAME NAME YQ=|submit NAME 1|submit NAME 1 ACCOUNT ACCOUNT,, YQ==|submit x 01 a b ?|submit NAME 1 a b ?|"
+    b"archive ACCOUNT 1|archive NAME 1 0|archive ACCOUNT 01 0|archive ACCOUNT 1 -1|archive ACCOUNT 4102444800 4294967296|"
+    b"archive ACCOUNT 1 4294967296|upgrade ACCOUNT 1|upgrade NAME|upgrade NAME 4102444800|vault|vault NAME|Vault ACCOUNT|"
+    b"vault-show ACCOUNT|vault-show ACCOUNT 01|vault_show ACCOUNT 0|screen NAME|screen x 0|screen NAME 4294967296"
 ).split(b"|")
 GREATEST = {"moment": 4_102_444_799, "number": 4_294_967_295}
 
@@ -68,7 +76,7 @@ def play(state, line):
         raise LineFault("arity")
     given = [argument(sort, one, place, state.directory) for place, (sort, one) in enumerate(zip(sorts, words), 1)]
     try:
-        return getattr(state, word.decode())(*given)
+        return getattr(state, word.decode().replace("-", "_"))(*given)
     except network.Refused as why:
         return [str(why)]
 
@@ -189,8 +197,11 @@ class Author:
             fields.append(field)
         if self.maybe(0.08):
             body += b"y" * self.chance.randint(1, 2000)
-        if self.maybe(0.06):
-            body += self.one_of((3, b"PEC-VIRUS-DI-PROVA\r\n"), (1, b"PEC-VIRUS-DI-PROV"), (1, b"PEC-VIRUS-DI-\r\nPROVA"))
+        if self.maybe(0.2):
+            body += self.one_of(
+                (6, b"PEC-VIRUS-DI-PROVA\r\n"), (2, b"PEC-VIRUS-DI-PROVA-2"), (1, b"PEC-VIRUS-DI-PROV"),
+                (1, b"PEC-VIRUS-DI-\r\nPROVA"),
+            )
         if self.maybe(0.12):
             fields = self.wrong_head(fields, sender)
         if self.maybe(0.3):
@@ -252,7 +263,7 @@ class Author:
             peer = self.chance.choice(self.state.numbers)
             right = [self.directory.at(said[3].recipients, peer)]
         elif sort == "outcome" and identity in self.state.accepted:
-            right = [[self.state.accepted[identity][1].sender]]
+            right = [self.state.outcome_path(identity, said[4])]
         else:
             peer = identity[0] if sort == "charge" else self.directory.home(said[3])
             right = [[houses[peer].receipts]]
@@ -281,11 +292,23 @@ class Author:
             return None
         if sort == "ack":
             return state.ack(identity, by, recipient, at + 9, facts)
-        decision = self.chance.choice(["delivered", "no-mailbox", "mailbox-full"])
+        decision = self.chance.choice(["delivered", "no-mailbox", "mailbox-full", "virus"])
         return state.outcome(identity, by, recipient, decision, at + 3, facts, original)
+
+    def told_of_a_virus(self):
+        """What tells a sender of a virus, sealed by some provider, under a path of an outcome: it is no letter."""
+        identity, by = self.chance.choice(list(self.state.accepted)), self.chance.choice(self.state.numbers)
+        at, facts, _ = self.state.accepted[identity]
+        recipient = self.chance.choice(self.directory.certified(facts.recipients) or [None])
+        if recipient is None:
+            return b""
+        text = self.state.error_of_virus(identity, by, recipient, at + 3, facts)
+        return letters.frame(self.state.outcome_path(identity, self.chance.choice(["virus", "delivered"])), text)
 
     def letter_frame(self):
         """A letter of this network, or what was a letter, under some path."""
+        if self.forging and self.state.accepted and self.maybe(0.1):
+            return self.told_of_a_virus()
         text = self.forged() if self.forging and self.maybe(0.5) else None
         licensed = [text for text, said in self.state.view.items() if self.forging or said]
         text = text or (self.chance.choice(licensed) if licensed else None)
@@ -306,7 +329,7 @@ class Author:
         path = self.chance.choices(self.reachable, k=self.chance.randint(1, 4))
         found = [b"From: x@y.example\r\n\r\nciao", b"", b"\xff", b"Subject: a\tb\xe8\n\n", b"--=_pec_0\r\n"]
         text = self.chance.choice(found)
-        items = [one.text for items in self.state.items.values() for one in items]
+        items = [one.text for address in self.state.items for one in self.state.all_items(address)]
         if items and self.maybe(0.4):
             # receipts and anomalies are no letters, and what an envelope or an outcome is its frame says
             text = self.chance.choice(items)
@@ -326,6 +349,21 @@ class Author:
     def crash(self):
         return b"crash " + self.provider()
 
+    def archive(self):
+        full = [one for one in self.accounts if self.state.items[one]]
+        address = self.chance.choice(full if full and self.maybe(0.9) else self.accounts + [b"a@b.c"])
+        count = len(self.state.items.get(address, []))
+        place = self.chance.randint(0, max(0, count - self.chance.choice([0, 1, 1, 1, 1])))
+        return b"archive %s %d %d" % (address, self.moment(), place)
+
+    def upgrade(self):
+        old = [provider for provider in self.state.numbers if self.state.versions[provider] == 1]
+        provider = self.name(self.chance.choice(old)) if old and self.maybe(0.7) else self.provider()
+        return b"upgrade %s %d" % (provider, self.moment())
+
+    def screen(self):
+        return b"screen %s %d" % (self.provider(), self.one_of((8, 0), (1, 1), (1, 4_294_967_295)))
+
     def restart(self):
         down = [provider for provider in self.state.numbers if self.state.down[provider]]
         return b"restart " + (self.name(self.chance.choice(down)) if down and self.maybe(0.9) else self.provider())
@@ -333,7 +371,11 @@ class Author:
     def look(self):
         address = self.chance.choice(self.accounts + [b"zoe@" + texts.domain(self.accounts[0]), b"a@b.c"])
         place = self.chance.randint(0, len(self.state.items.get(address, [])))
-        return self.chance.choice([b"book " + address, b"mailbox " + address, b"show %s %d" % (address, place)])
+        laid = self.chance.randint(0, len(self.state.vaults.get(address, [])))
+        return self.chance.choice([
+            b"book " + address, b"mailbox " + address, b"show %s %d" % (address, place),
+            b"vault " + address, b"vault-show %s %d" % (address, laid),
+        ])
 
     def wrong_line(self):
         """No command: the run ends there."""
@@ -345,7 +387,8 @@ class Author:
             return self.restart()
         make = self.one_of(
             (20, self.submit), (32, self.round), (9, self.tick), (14, self.on_a_link), (10, self.inject),
-            (2, self.crash), (1, self.restart), (11, self.look), (1, lambda: self.chance.choice([b"", b"# nota"])),
+            (2, self.crash), (1, self.restart), (13, self.look), (1, lambda: self.chance.choice([b"", b"# nota"])),
+            (9, self.archive), (1, self.upgrade), (3, self.screen),
         )
         return make()
 
@@ -361,6 +404,7 @@ def looks(state):
     """Lines that show all that accounts can see."""
     lines = []
     for address, items in state.items.items():
-        lines += [b"book " + address, b"mailbox " + address]
+        lines += [b"book " + address, b"mailbox " + address, b"vault " + address]
         lines += [b"show %s %d" % (address, place) for place in range(len(items))]
+        lines += [b"vault-show %s %d" % (address, place) for place in range(len(state.vaults[address]))]
     return lines

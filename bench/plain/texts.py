@@ -139,13 +139,11 @@ def facts(fields):
     return Facts(sender[0], to, copies, wish(fields), subject, reference, reply)
 
 
-# What the program's screens look for.
-VIRUS = b"PEC-VIRUS-DI-PROVA"
 CAUSES = ["head", "from", "to", "reverse-path", "forward-path", "bcc", "size", "virus"]
 
 
-def refused(message, account, path, limit):
-    """The cause for which a message isn't accepted, or None."""
+def refused(message, account, path, limit, found):
+    """The cause for which a message isn't accepted, or None. A screen found a rule in it, or didn't."""
     read = head(message)
     if read is None:
         return "head"
@@ -165,7 +163,7 @@ def refused(message, account, path, limit):
         return "bcc"
     if len(message) * len(set(to + copies)) > limit:
         return "size"
-    return "virus" if VIRUS in message else None
+    return "virus" if found else None
 
 
 def parameter(value, name):

@@ -287,6 +287,7 @@ use pec_link::LinkFault;
 use pec_network::{Form, Network, RestartFault, StartFault};
 use pec_outside::{MemDepot, MemDisk};
 use pec_provider::{Mark, ProviderFault, Submitted};
+use pec_screen::NoScreens;
 use pec_seal::{HmacSealer, Sealer};
 use pec_trade::sealer_of;
 use pec_types::{Address, BookLine, Frame, ItemLine, Moment, NoMemory, Turn};
@@ -295,7 +296,7 @@ use std::alloc::Global;
 /// A network of at least two providers, which answers as the calls of `Network` do.
 pub struct Net {
     alloc: Global,
-    network: Network<MemDisk, HmacSealer>,
+    network: Network<MemDisk, HmacSealer, NoScreens>,
     depot: MemDepot,
     ghost fits: { Fits (⟦<HmacSealer as Sealer>⟧.seals network.sealer) (providers_of network.kept) },
     ghost two: { 2 ≤ length network.kept },
@@ -341,12 +342,12 @@ fn of_form(
     directory: Directory,
     sealer: HmacSealer,
     depot: &mut MemDepot,
-) -> Result<Network<MemDisk, HmacSealer>, StartFault>
+) -> Result<Network<MemDisk, HmacSealer, NoScreens>, StartFault>
     ensures { IfOk result (λ network. (network.kept ≡ directory) × (network.sealer ≡ sealer)) }
 {
     match form {
-        Form::Make => Network::create(alloc, directory, sealer, depot),
-        Form::Open => Network::resume(alloc, directory, sealer, depot),
+        Form::Make => Network::create(alloc, directory, sealer, Vec::new(alloc), depot),
+        Form::Open => Network::resume(alloc, directory, sealer, Vec::new(alloc), depot),
     }
 }
 
@@ -473,7 +474,7 @@ use std::alloc::Global;
 
 pub(crate) fn submit(
     alloc: Global,
-    network: &mut Network<MemDisk, HmacSealer>,
+    network: &mut Network<MemDisk, HmacSealer, NoScreens>,
     provider: u32,
     moment: Moment,
     sender: &Address,
@@ -487,13 +488,12 @@ pub(crate) fn submit(
     ensures { (network.new.kept ≡ network.old.kept) × (network.new.sealer ≡ network.old.sealer) }
 {
     network.directory();
-    let mut none = NoScreens;
-    network.submit(alloc, provider, moment, sender, path, message, &mut none)
+    network.submit(alloc, provider, moment, sender, path, message)
 }
 
 pub(crate) fn tick(
     alloc: Global,
-    network: &mut Network<MemDisk, HmacSealer>,
+    network: &mut Network<MemDisk, HmacSealer, NoScreens>,
     provider: u32,
     moment: Moment,
 ) -> Result<Vec<Mark>, ProviderFault>
@@ -504,7 +504,7 @@ pub(crate) fn tick(
     network.tick(alloc, provider, moment, &mut Steps::new())
 }
 
-pub(crate) fn crash(network: &mut Network<MemDisk, HmacSealer>, provider: u32, depot: &mut MemDepot)
+pub(crate) fn crash(network: &mut Network<MemDisk, HmacSealer, NoScreens>, provider: u32, depot: &mut MemDepot)
     requires { provider < length network.old.kept }
     ensures { (network.new.kept ≡ network.old.kept) × (network.new.sealer ≡ network.old.sealer) }
 {
@@ -514,7 +514,7 @@ pub(crate) fn crash(network: &mut Network<MemDisk, HmacSealer>, provider: u32, d
 
 pub(crate) fn restart(
     alloc: Global,
-    network: &mut Network<MemDisk, HmacSealer>,
+    network: &mut Network<MemDisk, HmacSealer, NoScreens>,
     provider: u32,
 ) -> Result<u64, RestartFault>
     requires { provider < length network.old.kept }

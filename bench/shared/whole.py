@@ -14,7 +14,7 @@ use common::{BATCH, BEGIN, DIRECTORY, message, since, word};
 use pec_outside::{
     Depot, Disk, Door, MemDepot, MemDisk, MemDoor, MemSink, MemSource, MemTicks, Sink, Source, Ticks,
 };
-use pec_screen::NoScreens;
+use pec_screen::{NoScreens, Screen};
 use pec_top::{Status, run_pec};
 use pec_types::Moment;
 use std::alloc::Global;
@@ -126,8 +126,9 @@ fn status_of<X: Threads + Sync + AllocGlobal, S: Source, W: Sink, P: Depot, T: T
 ) -> Status {
     let alloc = rt.alloc();
     let screens: Vec<NoScreens> = Vec::new(alloc);
+    let spares: Vec<Box<dyn Screen>> = Vec::new(alloc);
     run_pec(
-        rt, alloc, words, source, sink, depot, ticks, door, screens,
+        rt, alloc, words, source, sink, depot, ticks, door, screens, spares,
     )
 }
 
