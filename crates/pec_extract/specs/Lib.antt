@@ -1,4 +1,0 @@
-pub mod LogRows
-pub mod Logs
-pub mod Reading
-pub mod Records

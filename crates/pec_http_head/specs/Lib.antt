@@ -1,7 +1,0 @@
-pub mod Cuts
-pub mod Fields
-pub mod HeadEnds
-pub mod Paths
-pub mod Requests
-pub mod Routes
-pub mod Views
