@@ -1,28 +1,33 @@
 -- How the rows of a provider's log are written, one after another.
 use Rattle.std.proofs.Common.{◌≡◌, ℕ, ◌+◌, ◌<◌, ◌≤◌, zero, suc, Bool, true, false, not, List, [], ◌∷◌, ◌++◌, length, drop, Option, Some, None, Result, Ok, Err, refl, sym, ap, subst, ◌∙◌, arith, append_assoc, add-one, drop-cons}
-use Rattle.std.specs.Prelude.{IfErr, OnErr, OnOk, slice_get}
+use Rattle.std.specs.Prelude.{IfErr, IfSome, OnErr, OnOk, slice_get}
 use Rattle.std.specs.List.{flat_map}
-use Rattle.std.specs.Option.{option_to_list}
+use Rattle.std.specs.Option.{option_map, option_to_list}
 use Rattle.std.proofs.Math.ListN.{drop_of_length-le}
 use Rattle.std.proofs.lemmas.Grind.{flat_map-append}
 use Rattle.std.proofs.lemmas.List.{append-nil}
 use Rattle.std.proofs.lemmas.Bool.{false≢true}
 use Rattle.std.proofs.lemmas.Option.{get_or_from_slice_get, same_Some, slice_get_within}
 use Rattle.pec_types.specs.Bytes.{Bytes}
+use Rattle.pec_types.specs.Message.{Id}
+use Rattle.pec_types.specs.declared.messages.Facts.{Facts}
 use Rattle.pec_outside.specs.DiskModel.{Sight}
 use Rattle.pec_outside.specs.Flow.{followed_by, Wrote, WrotePart}
 use Rattle.pec_directory.specs.Directory.{Kept, Provider}
 use Rattle.pec_seal.specs.Seals.{Seals}
 use Rattle.pec_records.specs.declared.entries.Entry.{Entry}
-use Rattle.pec_ledger.specs.Steps.{half}
+use Rattle.pec_records.specs.declared.entries.Entry.TheVariants as kinds
+use Rattle.pec_ledger.specs.Steps.{half, moment_of}
 use Rattle.pec_ledger.specs.Trade.{Trade}
 use Rattle.pec_chronicle.specs.Carrying.{CarriesOn, NothingMay}
 use Rattle.pec_chronicle.specs.CarryingLaws.{carries_and_then}
 use Rattle.pec_chronicle.specs.Chronicle.{Stands}
 use Rattle.pec_provider.specs.Provider.{Desk, ProviderState, Runs, desk_of}
-use Rattle.pec_extract.specs.LogRows.{log_rows, row_within, rows_from, submits}
+use Rattle.pec_provider.specs.Telling.{facts_taken, own_facts}
+use Rattle.pec_extract.specs.LogRows.{facts_by, log_rows, original_in, row_with, row_within, rows_from, submits, told_by, told_with}
 use Rattle.pec_extract.specs.Reading.{IsLogChanged, OnChanged, Reads}
 use Rattle.pec_extract.specs.Records.{Record, record_text, records_text}
+use Rattle.pec_extract.specs.Remembering.{AreTaken, Original, facts_kept, told_known}
 use Rattle.pec_extract.specs.declared.faults.ExtractFault.{ExtractFault}
 use Rattle.pec_extract.specs.declared.faults.ExtractFault.TheVariants as faults
 
@@ -101,6 +106,61 @@ module _ (trade : Trade) (providers : List Provider) (me : ℕ) (journal : List 
       ap (λ (entries : List Entry). records_text (rows_from trade providers me journal from upto number submitted entries))
       (drop_of_length-le journal l)
 
+-- ---- what an entry tells
+
+-- where what is remembered of its original is what the journal says, the row says what it has to say
+by_original : (accepted taken known : Id → Option Facts) (me submitted : ℕ) (entry : Entry)
+    → IfSome (original_in entry) (λ id. known id ≡ taken id)
+    → facts_by accepted known me submitted entry ≡ facts_by accepted taken me submitted entry
+by_original accepted taken known me submitted (kinds.Start provider digest) same = refl
+by_original accepted taken known me submitted (kinds.StartTwo provider digest) same = refl
+by_original accepted taken known me submitted (kinds.Accepted moment sender message) same = refl
+by_original accepted taken known me submitted (kinds.NotAccepted moment sender cause path message) same = refl
+by_original accepted taken known me submitted (kinds.Took moment id message) same = same
+by_original accepted taken known me submitted (kinds.Decided moment id recipient decision) same = same
+by_original accepted taken known me submitted (kinds.Charged moment id by) same = refl
+by_original accepted taken known me submitted (kinds.Learned moment id recipient decision decided message) same = refl
+by_original accepted taken known me submitted (kinds.Acked moment id recipient) same = same
+by_original accepted taken known me submitted (kinds.Ticked moment) same = refl
+by_original accepted taken known me submitted (kinds.Upgraded moment) same = refl
+by_original accepted taken known me submitted (kinds.Anomaly moment accounts message) same = refl
+by_original accepted taken known me submitted (kinds.Archived moment account place) same = refl
+
+module _ {D : Type 0} (trade : Trade) (providers : List Provider) (me number submitted : ℕ) (old mid : ProviderState D)
+    (same : desk_of mid ≡ desk_of old) (originals : List Original) (entry : Entry)
+    (known : IfSome (original_in entry) (λ id. facts_kept originals id ≡ facts_taken trade me old.chronicle.entries id)) where
+  abbrev row_known : Bytes
+  row_known = records_text (option_to_list (option_map (row_with providers me number (moment_of entry))
+      (told_known trade providers me (half trade me mid.chronicle.entries) originals number submitted entry)))
+
+  abbrev row_told : Bytes
+  row_told = records_text (option_to_list (option_map (row_with providers me number (moment_of entry))
+      (told_by trade providers me old.chronicle.entries number submitted entry)))
+
+  pub same_told : row_known ≡ row_told
+  same_told =
+      ap (λ (entries : List Entry). records_text (option_to_list (option_map (row_with providers me number (moment_of entry))
+      (told_known trade providers me (half trade me entries) originals number submitted entry))))
+      (ap (λ (desk : Desk). desk.journal) same)
+      ∙ ap (λ (facts : Option Facts). records_text (option_to_list (option_map
+      (row_with providers me number (moment_of entry))
+      (told_with trade providers me (half trade me old.chronicle.entries) number submitted facts entry))))
+      (by_original (own_facts me (half trade me old.chronicle.entries)) (facts_taken trade me old.chronicle.entries)
+      (facts_kept originals) me submitted entry known)
+
+-- where nothing is read what is remembered is so of the same journal
+module _ {D : Type 0} (trade : Trade) (me : ℕ) (old mid : ProviderState D) (same : desk_of mid ≡ desk_of old)
+    (originals : List Original) where
+  pub taken_mid : AreTaken trade me old.chronicle.entries originals → AreTaken trade me mid.chronicle.entries originals
+  taken_mid taken =
+      subst (λ (entries : List Entry). AreTaken trade me entries originals)
+      (sym (ap (λ (desk : Desk). desk.journal) same)) taken
+
+  pub taken_old : AreTaken trade me mid.chronicle.entries originals → AreTaken trade me old.chronicle.entries originals
+  taken_old taken =
+      subst (λ (entries : List Entry). AreTaken trade me entries originals)
+      (ap (λ (desk : Desk). desk.journal) same) taken
+
 -- ---- one entry
 
 module _ {D : Type 0} (trade : Trade) (providers : List Provider) (me from upto number submitted : ℕ)
@@ -146,33 +206,42 @@ module _ {D : Type 0} (Tells : Type 0) (sight : D → Sight) (count : D → ℕ)
   abbrev all_rows : Bytes
   all_rows = records_text (log_rows trade providers me begun.chronicle.entries from upto)
 
-  -- The rows of the entries before this one are written, of which so many submit messages, and nothing else has changed.
-  pub record LogSoFar (number submitted : ℕ) (now : ProviderState D) (written : Option Bytes) : Type 0 where
+  -- The rows of the entries before this one are written, of which so many submit messages, what is remembered is what the
+  -- journal says, and nothing else has changed.
+  pub record LogSoFar (number submitted : ℕ) (now : ProviderState D) (written : Option Bytes) (originals : List Original)
+      : Type 0 where
     pub desk : desk_of now ≡ desk_of begun
     pub owed : now.owed ≡ begun.owed
     pub runs : Runs kept seals me now
     pub carries : Tells → CarriesOn sight NothingMay begun.chronicle now.chronicle
     pub later : count begun.chronicle.disk ≤ count now.chronicle.disk
     pub few : submitted ≤ number
+    pub taken : Tells → Stands sight begun.chronicle → AreTaken trade me begun.chronicle.entries originals
     pub wrote : Tells → Stands sight begun.chronicle
         → Wrote held written all_rows (records_text (left trade providers me begun.chronicle.entries from upto number submitted))
 
-  pub log_begins : Runs kept seals me begun → (Tells → CarriesOn sight NothingMay begun.chronicle begun.chronicle)
-      → LogSoFar 0 0 begun held
-  log_begins runs rests = record {
+  pub log_begins : (originals : List Original) → originals ≡ [] → Runs kept seals me begun
+      → (Tells → CarriesOn sight NothingMay begun.chronicle begun.chronicle) → LogSoFar 0 0 begun held originals
+  log_begins originals none runs rests = record {
     desk = refl;
     owed = refl;
     runs = runs;
     carries = rests;
     later = omega arith;
     few = omega arith;
+    taken = λ tells stands.
+        subst (λ (found : List Original). AreTaken trade me begun.chronicle.entries found) (sym none) (λ id. tt);
     wrote = λ tells stands. wrote_none held all_rows;
   }
 
-  module _ (number submitted : ℕ) (now : ProviderState D) (written : Option Bytes)
-      (so_far : LogSoFar number submitted now written) where
+  module _ (number submitted : ℕ) (now : ProviderState D) (written : Option Bytes) (originals : List Original)
+      (so_far : LogSoFar number submitted now written originals) where
     same_journal : now.chronicle.entries ≡ begun.chronicle.entries
     same_journal = ap (λ (desk : Desk). desk.journal) so_far.desk
+
+    taken_now : Tells → Stands sight begun.chronicle → AreTaken trade me now.chronicle.entries originals
+    taken_now tells stands =
+        subst (λ (entries : List Entry). AreTaken trade me entries originals) (sym same_journal) (so_far.taken tells stands)
 
     pub still_up : begun.chronicle.down ≡ false → now.chronicle.down ≡ false
     still_up up = not_again now.chronicle.down (ap (λ (desk : Desk). desk.up) so_far.desk ∙ ap not up)
@@ -186,16 +255,19 @@ module _ {D : Type 0} (Tells : Type 0) (sight : D → Sight) (count : D → ℕ)
 
     module _ (new : ProviderState D) (after : Option Bytes) where
       -- one entry more
-      pub log_more : (more : ℕ) → Reads (desk_of now) (desk_of new) (Ok more) → new.owed ≡ now.owed → Runs kept seals me new
+      pub log_more : (found : List Original) (more : ℕ) → Reads (desk_of now) (desk_of new) (Ok more) → new.owed ≡ now.owed → Runs kept seals me new
           → (Tells → CarriesOn sight NothingMay now.chronicle new.chronicle)
           → count now.chronicle.disk ≤ count new.chronicle.disk → more ≤ 1 → number < length begun.chronicle.entries
-          → (Tells → Stands sight now.chronicle → (entry : Entry) → slice_get now.chronicle.entries number ≡ Some entry
+          → (Tells → Stands sight now.chronicle → AreTaken trade me now.chronicle.entries originals
+          → AreTaken trade me now.chronicle.entries found)
+          → (Tells → Stands sight now.chronicle → AreTaken trade me now.chronicle.entries originals
+          → (entry : Entry) → slice_get now.chronicle.entries number ≡ Some entry
           → after ≡ followed_by written (records_text (option_to_list
           (row_within trade providers me now.chronicle.entries from upto number submitted entry))))
           → (Tells → Stands sight now.chronicle → (entry : Entry) → slice_get now.chronicle.entries number ≡ Some entry
           → more ≡ submits entry)
-          → LogSoFar (number + 1) (submitted + more) new after
-      log_more more reads owed runs carries later few l row submits_so =
+          → LogSoFar (number + 1) (submitted + more) new after found
+      log_more found more reads owed runs carries later few l taken row submits_so =
           let there = there_at begun.chronicle.entries number l in
           let few_so_far = so_far.few in
           let later_so_far = so_far.later in
@@ -207,6 +279,9 @@ module _ {D : Type 0} (Tells : Type 0) (sight : D → Sight) (count : D → ℕ)
                 carries_and_then sight NothingMay begun.chronicle now.chronicle new.chronicle (so_far.carries tells) (carries tells);
             later = omega (arith, later_so_far, later);
             few = omega (arith, few_so_far, few);
+            taken = λ tells stands.
+                subst (λ (entries : List Entry). AreTaken trade me entries found) same_journal
+                (taken tells ((so_far.carries tells).stands stands) (taken_now tells stands));
             wrote = λ tells stands.
                 let stands_now = (so_far.carries tells).stands stands in
                 let at : slice_get now.chronicle.entries number ≡ Some there.0 =
@@ -215,7 +290,7 @@ module _ {D : Type 0} (Tells : Type 0) (sight : D → Sight) (count : D → ℕ)
                 (records_text (left trade providers me begun.chronicle.entries from upto (number + 1) (submitted + n))))
                 (sym (submits_so tells stands_now there.0 at))
                 (wrote_more held written after all_rows _ _ _ (so_far.wrote tells stands)
-                (row tells stands_now there.0 at
+                (row tells stands_now (taken_now tells stands) there.0 at
                 ∙ ap (λ (entries : List Entry). followed_by written (records_text (option_to_list
                 (row_within trade providers me entries from upto number submitted there.0)))) same_journal)
                 (left_less trade providers me begun.chronicle.entries from upto number submitted there.0 there.1));
@@ -223,7 +298,8 @@ module _ {D : Type 0} (Tells : Type 0) (sight : D → Sight) (count : D → ℕ)
 
       -- it fails at this entry: a front of the rows was written
       pub log_front : number < length begun.chronicle.entries
-          → (Tells → Stands sight now.chronicle → (entry : Entry) → slice_get now.chronicle.entries number ≡ Some entry
+          → (Tells → Stands sight now.chronicle → AreTaken trade me now.chronicle.entries originals
+          → (entry : Entry) → slice_get now.chronicle.entries number ≡ Some entry
           → WrotePart written after (records_text (option_to_list
           (row_within trade providers me now.chronicle.entries from upto number submitted entry))))
           → Tells → Stands sight begun.chronicle → WrotePart held after all_rows
@@ -235,7 +311,7 @@ module _ {D : Type 0} (Tells : Type 0) (sight : D → Sight) (count : D → ℕ)
           wrote_part held written after all_rows _ _ _ (so_far.wrote tells stands)
           (subst (λ (entries : List Entry). WrotePart written after (records_text (option_to_list
           (row_within trade providers me entries from upto number submitted there.0)))) same_journal
-          (part tells stands_now there.0 at))
+          (part tells stands_now (taken_now tells stands) there.0 at))
           (left_less trade providers me begun.chronicle.entries from upto number submitted there.0 there.1)
 
     -- it fails at this entry: what is kept goes on

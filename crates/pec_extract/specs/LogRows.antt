@@ -20,7 +20,7 @@ use Rattle.pec_ledger.specs.Steps.{half, moment_of}
 use Rattle.pec_ledger.specs.Trade.{Trade}
 use Rattle.pec_provider.specs.OfTrades.{refused_facts}
 use Rattle.pec_provider.specs.Summing.{Summary, is_within, summary_within}
-use Rattle.pec_provider.specs.Telling.{facts_here, recipients_taken}
+use Rattle.pec_provider.specs.Telling.{facts_taken, own_facts, recipients_taken}
 use Rattle.pec_extract.specs.Records.{Record}
 use Rattle.pec_extract.specs.declared.writing.Totals.{Totals}
 
@@ -108,16 +108,25 @@ row_with providers me number moment told =
 abbrev pub next_message : (me submitted : ℕ) → Option Id
 next_message me submitted = if nat_lt submitted MESSAGES then Some (id_of me submitted) else None
 
--- The message that an entry is about, where it is one that was accepted or taken here: by number, or as the next of those
--- that were submitted.
-abbrev pub message_in : (me submitted : ℕ) → Entry → Option Id
-message_in me submitted (entries.Accepted moment sender message) = next_message me submitted
-message_in me submitted (entries.Took moment id message) = Some id
-message_in me submitted (entries.Decided moment id recipient decision) = Some id
-message_in me submitted (entries.Charged moment id by) = Some id
-message_in me submitted (entries.Learned moment id recipient decision decided message) = Some id
-message_in me submitted (entries.Acked moment id recipient) = Some id
-message_in me submitted _ = None
+-- The message of whose original, in the envelope that was taken here, the row of an entry tells the facts.
+abbrev pub original_in : Entry → Option Id
+original_in (entries.Took moment id message) = Some id
+original_in (entries.Decided moment id recipient decision) = Some id
+original_in (entries.Acked moment id recipient) = Some id
+original_in _ = None
+
+-- The facts that the row of an entry tells of its message, by the kind of the entry: where it was accepted, where
+-- charge of it was taken, and where its outcome was learned, those of the accepted message; where it was taken, decided
+-- and acknowledged, those of the original in the taken envelope. No other row tells any.
+abbrev pub facts_by : (accepted taken : Id → Option Facts) → (me submitted : ℕ) → Entry → Option Facts
+facts_by accepted taken me submitted (entries.Accepted moment sender message) =
+    option_and_then accepted (next_message me submitted)
+facts_by accepted taken me submitted (entries.Charged moment id by) = accepted id
+facts_by accepted taken me submitted (entries.Learned moment id recipient decision decided message) = accepted id
+facts_by accepted taken me submitted (entries.Took moment id message) = taken id
+facts_by accepted taken me submitted (entries.Decided moment id recipient decision) = taken id
+facts_by accepted taken me submitted (entries.Acked moment id recipient) = taken id
+facts_by accepted taken me submitted _ = None
 
 module _ (trade : Trade) (providers : List Provider) (me : ℕ) (half : Half) where
   -- What the row of an entry says, of its number among the entries, of how many messages were submitted before it, and
@@ -148,11 +157,16 @@ module _ (trade : Trade) (providers : List Provider) (me : ℕ) (half : Half) wh
       Some (bare (codes "archived") account (decimal place))
 
 module _ (trade : Trade) (providers : List Provider) (me : ℕ) (journal : List Entry) where
-  -- what the row of an entry says, by what this journal tells of its message
+  -- The facts that the row of an entry tells of its message, as this journal has them: those of an accepted message by
+  -- the head that was accepted, those of an original by its own head, also where the message was accepted here.
+  abbrev pub facts_for : (submitted : ℕ) → Entry → Option Facts
+  facts_for submitted entry =
+      facts_by (own_facts me (half trade me journal)) (facts_taken trade me journal) me submitted entry
+
+  -- what the row of an entry says, by these
   abbrev pub told_by : (number submitted : ℕ) → Entry → Option Told
   told_by number submitted entry =
-      told_with trade providers me (half trade me journal) number submitted
-      (option_and_then (facts_here trade me journal) (message_in me submitted entry)) entry
+      told_with trade providers me (half trade me journal) number submitted (facts_for submitted entry) entry
 
   -- the row of an entry, where it has one and its moment is in the range
   abbrev pub row_within : (from upto : ℕ) → (number submitted : ℕ) → Entry → Option Record

@@ -8,6 +8,7 @@ mod laws;
 mod logging;
 mod reading;
 mod records;
+mod remembered;
 mod rows;
 mod told;
 mod whole;

@@ -10,16 +10,18 @@ ghost use Rattle.pec_chronicle.specs.Carrying.{CarriesOn, NothingMay};
 ghost use Rattle.pec_chronicle.specs.Chronicle.{Stands};
 ghost use Rattle.pec_provider.specs.Provider.{RunsIn, desk_of};
 ghost use Rattle.pec_provider.specs.Summing.{IsUpTo, is_within, most_pairs};
-ghost use Rattle.pec_provider.specs.Telling.{facts_here, recipients_taken};
-ghost use Rattle.pec_extract.specs.LogRows.{log_rows, message_in, row_with, row_within, submits, told_by, told_with, totals_in, totals_of};
+ghost use Rattle.pec_provider.specs.Telling.{facts_taken, own_facts, recipients_taken};
+ghost use Rattle.pec_extract.specs.LogRows.{facts_by, log_rows, next_message, original_in, row_with, row_within, submits, told_by, told_with, totals_in, totals_of};
 ghost use Rattle.pec_extract.specs.Logs.{HasGrown, TotalsUpTo};
 ghost use Rattle.pec_extract.specs.Reading.{IsLogChanged, IsOfSink, OnChanged, Reads};
 ghost use Rattle.pec_extract.specs.Records.{record_text, records_text};
+ghost use Rattle.pec_extract.specs.Remembering.{AreTaken, facts_kept, told_known};
 ghost use Rattle.pec_extract.specs.declared.faults.ExtractFault.TheVariants as faults;
 
 use crate::faults::ExtractFault;
-use crate::reading::{entry_at, facts_here};
-use crate::rows::{Beside, message_in, name_word, submits, told_with};
+use crate::reading::{entry_at, remember};
+use crate::remembered::Remembered;
+use crate::rows::{Beside, name_word, next_message, original_in, submits, told_with};
 use crate::told::Told;
 use crate::writing::{Totals, write_record};
 use itoa::Buffer;
@@ -34,8 +36,8 @@ use pec_types::{Address, Facts, Moment, MsgId, NoMemory};
 use std::alloc::Global;
 
 /// Writes the rows of a provider's log: one for each of its entries whose moment is in the range, both ends of which
-/// belong to it, in their order. Each entry is read, and for a message that was only taken the entry of its envelope. The
-/// answer is what has become of the pairs accepted in the range. After a fault a front of the rows was written:
+/// belong to it, in their order. Each entry is read, and for the rows of a message that was taken its envelope, once.
+/// The answer is what has become of the pairs accepted in the range. After a fault a front of the rows was written:
 /// `DiskFault` where the disk failed, `WriteFault` where the sink did, and `Changed` with the number of an entry that
 /// isn't what was kept. After `DiskFault` and `Changed` the provider is down, and else it is as it was.
 pub fn write_provider<S: Sealer, D: Disk, W: Sink>(
@@ -76,9 +78,20 @@ pub fn write_provider<S: Sealer, D: Disk, W: Sink>(
 {
     a_house_is_a_trade(house);
     a_provider_stands_still(provider);
+    let mut remembered = Remembered::new(alloc);
     let mut submitted = 0;
     for number in 0..provider.entries() {
-        submitted += write_entry(alloc, house, provider, number, submitted, from, upto, out)?;
+        submitted += write_entry(
+            alloc,
+            house,
+            provider,
+            &mut remembered,
+            number,
+            submitted,
+            from,
+            upto,
+            out,
+        )?;
     }
     Ok(totals_in(provider.summary_within(from, upto)))
 }
@@ -103,6 +116,7 @@ fn write_entry<S: Sealer, D: Disk, W: Sink>(
     alloc: Global,
     house: &House<'_, S>,
     provider: &mut Provider<D>,
+    remembered: &mut Remembered,
     number: u64,
     submitted: u64,
     from: Moment,
@@ -112,18 +126,23 @@ fn write_entry<S: Sealer, D: Disk, W: Sink>(
     requires runs { RunsIn house.now provider.old }
     requires up { provider.old.chronicle.down ≡ false }
     requires there { number < length provider.old.chronicle.entries }
-    ensures row { D.tells → Stands D.sight provider.old.chronicle → (entry : SomeEntry)
-        → slice_get provider.old.chronicle.entries number ≡ Some entry
+    ensures row { D.tells → Stands D.sight provider.old.chronicle
+        → AreTaken (world_at house.now) house.now.me provider.old.chronicle.entries remembered.old
+        → (entry : SomeEntry) → slice_get provider.old.chronicle.entries number ≡ Some entry
         → OnOk result (W.held out.new ≡ followed_by (W.held out.old) (records_text (option_to_list
         (row_within (world_at house.now) (providers_of house.now.directory.now) house.now.me
         provider.old.chronicle.entries from upto number submitted entry)))) }
     ensures more { D.tells → Stands D.sight provider.old.chronicle → (entry : SomeEntry)
         → slice_get provider.old.chronicle.entries number ≡ Some entry → IfOk result (λ more. more ≡ submits entry) }
-    ensures front { D.tells → Stands D.sight provider.old.chronicle → (entry : SomeEntry)
-        → slice_get provider.old.chronicle.entries number ≡ Some entry
+    ensures front { D.tells → Stands D.sight provider.old.chronicle
+        → AreTaken (world_at house.now) house.now.me provider.old.chronicle.entries remembered.old
+        → (entry : SomeEntry) → slice_get provider.old.chronicle.entries number ≡ Some entry
         → OnErr result (WrotePart (W.held out.old) (W.held out.new) (records_text (option_to_list
         (row_within (world_at house.now) (providers_of house.now.directory.now) house.now.me
         provider.old.chronicle.entries from upto number submitted entry)))) }
+    ensures taken { D.tells → Stands D.sight provider.old.chronicle
+        → AreTaken (world_at house.now) house.now.me provider.old.chronicle.entries remembered.old
+        → AreTaken (world_at house.now) house.now.me provider.old.chronicle.entries remembered.new }
     ensures grown { HasGrown (W.held out.old) (W.held out.new) }
     ensures few { IfOk result (λ more. more ≤ 1) }
     ensures changed { D.tells → Stands D.sight provider.old.chronicle → IfErr result (OnChanged
@@ -141,7 +160,7 @@ fn write_entry<S: Sealer, D: Disk, W: Sink>(
 {
     let entry = entry_at(alloc, house, provider, number)?;
     write_within(
-        alloc, house, provider, number, submitted, from, upto, &entry, out,
+        alloc, house, provider, remembered, number, submitted, from, upto, &entry, out,
     )?;
     Ok(submits(&entry))
 }
@@ -151,6 +170,7 @@ fn write_within<S: Sealer, D: Disk, W: Sink>(
     alloc: Global,
     house: &House<'_, S>,
     provider: &mut Provider<D>,
+    remembered: &mut Remembered,
     number: u64,
     submitted: u64,
     from: Moment,
@@ -160,14 +180,19 @@ fn write_within<S: Sealer, D: Disk, W: Sink>(
 ) -> Result<(), ExtractFault>
     requires runs { RunsIn house.now provider.old }
     requires up { provider.old.chronicle.down ≡ false }
-    ensures row { D.tells → Stands D.sight provider.old.chronicle → OnOk result
-        (W.held out.new ≡ followed_by (W.held out.old) (records_text (option_to_list
+    ensures row { D.tells → Stands D.sight provider.old.chronicle
+        → AreTaken (world_at house.now) house.now.me provider.old.chronicle.entries remembered.old
+        → OnOk result (W.held out.new ≡ followed_by (W.held out.old) (records_text (option_to_list
         (row_within (world_at house.now) (providers_of house.now.directory.now) house.now.me
         provider.old.chronicle.entries from upto number submitted entry.now)))) }
-    ensures front { D.tells → Stands D.sight provider.old.chronicle → OnErr result
-        (WrotePart (W.held out.old) (W.held out.new) (records_text (option_to_list
+    ensures front { D.tells → Stands D.sight provider.old.chronicle
+        → AreTaken (world_at house.now) house.now.me provider.old.chronicle.entries remembered.old
+        → OnErr result (WrotePart (W.held out.old) (W.held out.new) (records_text (option_to_list
         (row_within (world_at house.now) (providers_of house.now.directory.now) house.now.me
         provider.old.chronicle.entries from upto number submitted entry.now)))) }
+    ensures taken { D.tells → Stands D.sight provider.old.chronicle
+        → AreTaken (world_at house.now) house.now.me provider.old.chronicle.entries remembered.old
+        → AreTaken (world_at house.now) house.now.me provider.old.chronicle.entries remembered.new }
     ensures grown { HasGrown (W.held out.old) (W.held out.new) }
     ensures changed { D.tells → Stands D.sight provider.old.chronicle → IfErr result (OnChanged
         (IsLogChanged (world_at house.now) house.now.me provider.old.chronicle.entries)) }
@@ -186,7 +211,9 @@ fn write_within<S: Sealer, D: Disk, W: Sink>(
     if !is_within(from, upto, moment_of(entry)) {
         return Ok(());
     }
-    write_row(alloc, house, provider, number, submitted, entry, out)
+    write_row(
+        alloc, house, provider, remembered, number, submitted, entry, out,
+    )
 }
 
 /// Whether a moment is of a range, whose ends belong to it.
@@ -201,6 +228,7 @@ fn write_row<S: Sealer, D: Disk, W: Sink>(
     alloc: Global,
     house: &House<'_, S>,
     provider: &mut Provider<D>,
+    remembered: &mut Remembered,
     number: u64,
     submitted: u64,
     entry: &Entry,
@@ -208,16 +236,21 @@ fn write_row<S: Sealer, D: Disk, W: Sink>(
 ) -> Result<(), ExtractFault>
     requires runs { RunsIn house.now provider.old }
     requires up { provider.old.chronicle.down ≡ false }
-    ensures row { D.tells → Stands D.sight provider.old.chronicle → OnOk result
-        (W.held out.new ≡ followed_by (W.held out.old) (records_text (option_to_list (option_map
+    ensures row { D.tells → Stands D.sight provider.old.chronicle
+        → AreTaken (world_at house.now) house.now.me provider.old.chronicle.entries remembered.old
+        → OnOk result (W.held out.new ≡ followed_by (W.held out.old) (records_text (option_to_list (option_map
         (row_with (providers_of house.now.directory.now) house.now.me number (moment_of entry.now))
         (told_by (world_at house.now) (providers_of house.now.directory.now) house.now.me
         provider.old.chronicle.entries number submitted entry.now))))) }
-    ensures front { D.tells → Stands D.sight provider.old.chronicle → OnErr result
-        (WrotePart (W.held out.old) (W.held out.new) (records_text (option_to_list (option_map
+    ensures front { D.tells → Stands D.sight provider.old.chronicle
+        → AreTaken (world_at house.now) house.now.me provider.old.chronicle.entries remembered.old
+        → OnErr result (WrotePart (W.held out.old) (W.held out.new) (records_text (option_to_list (option_map
         (row_with (providers_of house.now.directory.now) house.now.me number (moment_of entry.now))
         (told_by (world_at house.now) (providers_of house.now.directory.now) house.now.me
         provider.old.chronicle.entries number submitted entry.now))))) }
+    ensures taken { D.tells → Stands D.sight provider.old.chronicle
+        → AreTaken (world_at house.now) house.now.me provider.old.chronicle.entries remembered.old
+        → AreTaken (world_at house.now) house.now.me provider.old.chronicle.entries remembered.new }
     ensures grown { HasGrown (W.held out.old) (W.held out.new) }
     ensures changed { D.tells → Stands D.sight provider.old.chronicle → IfErr result (OnChanged
         (IsLogChanged (world_at house.now) house.now.me provider.old.chronicle.entries)) }
@@ -232,9 +265,41 @@ fn write_row<S: Sealer, D: Disk, W: Sink>(
     ensures later { W.faults out.old ≤ W.faults out.new }
     ensures kept { W.left out.new ≡ W.left out.old }
 {
-    a_house_is_a_trade(house);
-    let message = message_in(house.me, submitted, entry);
-    let facts = facts_of(alloc, house, provider, message)?;
+    remember_for(alloc, house, provider, remembered, entry)?;
+    write_known(
+        alloc, house, provider, remembered, number, submitted, entry, out,
+    )
+}
+
+/// Writes the row of an entry, where it has one. What it tells of an original is remembered.
+fn write_known<S: Sealer, D, W: Sink>(
+    alloc: Global,
+    house: &House<'_, S>,
+    provider: &Provider<D>,
+    remembered: &Remembered,
+    number: u64,
+    submitted: u64,
+    entry: &Entry,
+    out: &mut W,
+) -> Result<(), ExtractFault>
+    requires runs { RunsIn house.now provider.now }
+    ensures ok { OnOk result (W.held out.new ≡ followed_by (W.held out.old) (records_text (option_to_list (option_map
+        (row_with (providers_of house.now.directory.now) house.now.me number (moment_of entry.now))
+        (told_known (world_at house.now) (providers_of house.now.directory.now) house.now.me
+        (half (world_at house.now) house.now.me provider.now.chronicle.entries) remembered.now number submitted
+        entry.now))))) }
+    ensures err { OnErr result (WrotePart (W.held out.old) (W.held out.new) (records_text (option_to_list (option_map
+        (row_with (providers_of house.now.directory.now) house.now.me number (moment_of entry.now))
+        (told_known (world_at house.now) (providers_of house.now.directory.now) house.now.me
+        (half (world_at house.now) house.now.me provider.now.chronicle.entries) remembered.now number submitted
+        entry.now))))) }
+    ensures grown { HasGrown (W.held out.old) (W.held out.new) }
+    ensures kept { W.left out.new ≡ W.left out.old }
+    ensures later { W.faults out.old ≤ W.faults out.new }
+    ensures sink { IfErr result IsOfSink }
+    ensures cause { IsErrOf result faults.WriteFault → HasRisen (W.faults out.old) (W.faults out.new) }
+{
+    let facts = facts_for(house, provider, remembered, submitted, entry);
     let told = told_of(alloc, house, provider, number, submitted, facts, entry)?;
     write_if(alloc, house, number, moment_of(entry), told, out)
 }
@@ -264,20 +329,20 @@ fn write_if<S: Sealer, W: Sink>(
     }
 }
 
-/// What the row of an entry says, with the facts of the message that it is about.
+/// What the row of an entry says, with the facts that it tells.
 fn told_of<S: Sealer, D>(
     alloc: Global,
     house: &House<'_, S>,
     provider: &Provider<D>,
     number: u64,
     submitted: u64,
-    facts: Option<Facts>,
+    facts: Option<&Facts>,
     entry: &Entry,
 ) -> Result<Option<Told>, NoMemory>
     requires runs { RunsIn house.now provider.now }
     ensures { IfOk result (λ told. told ≡ told_with (world_at house.now) (providers_of house.now.directory.now)
-        house.now.me (half (world_at house.now) house.now.me provider.now.chronicle.entries) number submitted facts
-        entry.now) }
+        house.now.me (half (world_at house.now) house.now.me provider.now.chronicle.entries) number submitted
+        (option_map (λ facts. facts.now) facts.entry) entry.now) }
 {
     a_house_is_a_trade(house);
     let beside = Beside {
@@ -286,22 +351,28 @@ fn told_of<S: Sealer, D>(
         number,
         submitted,
         facts,
-        taken: taken_for(house, provider, submitted, entry),
+        taken: taken_for(house, provider, entry),
     };
     told_with(alloc, &beside, entry)
 }
 
-/// The facts of the message that an entry is about, where it is about one.
-fn facts_of<S: Sealer, D: Disk>(
+/// Has the facts of the original remembered that the row of an entry tells, where it tells those of one.
+fn remember_for<S: Sealer, D: Disk>(
     alloc: Global,
     house: &House<'_, S>,
     provider: &mut Provider<D>,
-    message: Option<MsgId>,
-) -> Result<Option<Facts>, ExtractFault>
+    remembered: &mut Remembered,
+    entry: &Entry,
+) -> Result<(), ExtractFault>
     requires runs { RunsIn house.now provider.old }
     requires up { provider.old.chronicle.down ≡ false }
-    ensures told { D.tells → Stands D.sight provider.old.chronicle → IfOk result (λ facts. facts ≡ option_and_then
-        (facts_here (world_at house.now) house.now.me provider.old.chronicle.entries) message) }
+    ensures known { D.tells → Stands D.sight provider.old.chronicle
+        → AreTaken (world_at house.now) house.now.me provider.old.chronicle.entries remembered.old
+        → OnOk result (IfSome (original_in entry.now) (λ id. facts_kept remembered.new id
+        ≡ facts_taken (world_at house.now) house.now.me provider.old.chronicle.entries id)) }
+    ensures taken { D.tells → Stands D.sight provider.old.chronicle
+        → AreTaken (world_at house.now) house.now.me provider.old.chronicle.entries remembered.old
+        → AreTaken (world_at house.now) house.now.me provider.old.chronicle.entries remembered.new }
     ensures changed { D.tells → Stands D.sight provider.old.chronicle → IfErr result (OnChanged
         (IsLogChanged (world_at house.now) house.now.me provider.old.chronicle.entries)) }
     ensures reads { Reads (desk_of provider.old) (desk_of provider.new) result }
@@ -313,25 +384,80 @@ fn facts_of<S: Sealer, D: Disk>(
     ensures no_write { IsErrOf result faults.WriteFault → ⊥ }
     ensures later { D.faults provider.old.chronicle.disk ≤ D.faults provider.new.chronicle.disk }
 {
-    match message {
-        Some(id) => facts_here(alloc, house, provider, id),
-        None => Ok(None),
+    a_provider_stands_still(provider);
+    match original_in(entry) {
+        Some(id) => remember(alloc, house, provider, remembered, id),
+        None => Ok(()),
     }
 }
 
-/// For whom the message was taken that an entry is about.
-fn taken_for<'a, S: Sealer, D>(
+/// The facts that the row of an entry tells, those of an original as they are remembered.
+fn facts_for<'a, S: Sealer, D>(
+    house: &House<'_, S>,
+    provider: &'a Provider<D>,
+    remembered: &'a Remembered,
+    submitted: u64,
+    entry: &Entry,
+) -> Option<&'a Facts>
+    requires runs { RunsIn house.now provider.now }
+    ensures { option_map (λ facts. facts.now) result ≡ facts_by
+        (own_facts house.now.me (half (world_at house.now) house.now.me provider.now.chronicle.entries))
+        (facts_kept remembered.now) house.now.me submitted entry.now }
+{
+    match entry {
+        Entry::Accepted { .. } => facts_submitted(house, provider, submitted),
+        Entry::Charged { id, .. } => facts_accepted(house, provider, *id),
+        Entry::Learned { id, .. } => facts_accepted(house, provider, *id),
+        Entry::Took { id, .. } => remembered.facts(*id),
+        Entry::Decided { id, .. } => remembered.facts(*id),
+        Entry::Acked { id, .. } => remembered.facts(*id),
+        _ => None,
+    }
+}
+
+/// The facts of the next message that is submitted, where it was accepted.
+fn facts_submitted<'a, S: Sealer, D>(
     house: &House<'_, S>,
     provider: &'a Provider<D>,
     submitted: u64,
+) -> Option<&'a Facts>
+    requires runs { RunsIn house.now provider.now }
+    ensures { option_map (λ facts. facts.now) result ≡ option_and_then
+        (own_facts house.now.me (half (world_at house.now) house.now.me provider.now.chronicle.entries))
+        (next_message house.now.me submitted) }
+{
+    match next_message(house.me, submitted) {
+        Some(id) => facts_accepted(house, provider, id),
+        None => None,
+    }
+}
+
+/// The facts of a message that was accepted here.
+fn facts_accepted<'a, S: Sealer, D>(
+    house: &House<'_, S>,
+    provider: &'a Provider<D>,
+    id: MsgId,
+) -> Option<&'a Facts>
+    requires runs { RunsIn house.now provider.now }
+    ensures { option_map (λ facts. facts.now) result
+        ≡ own_facts house.now.me (half (world_at house.now) house.now.me provider.now.chronicle.entries) id }
+{
+    a_house_is_a_trade(house);
+    provider.facts_accepted(id)
+}
+
+/// For whom the message was taken of whose original the row of an entry tells.
+fn taken_for<'a, S: Sealer, D>(
+    house: &House<'_, S>,
+    provider: &'a Provider<D>,
     entry: &Entry,
 ) -> &'a [Address]
     requires runs { RunsIn house.now provider.now }
-    ensures { IfSome (message_in house.now.me submitted entry.now) (λ id. result.now ≡ recipients_taken
+    ensures { IfSome (original_in entry.now) (λ id. result.now ≡ recipients_taken
         (taken_of (half (world_at house.now) house.now.me provider.now.chronicle.entries) id)) }
 {
     a_house_is_a_trade(house);
-    match message_in(house.me, submitted, entry) {
+    match original_in(entry) {
         Some(id) => provider.recipients_taken(id),
         None => &[],
     }

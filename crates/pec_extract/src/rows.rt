@@ -1,4 +1,4 @@
-ghost use Rattle.std.specs.Prelude.{◌≡◌, ℕ, ◌+◌, List, [], ◌∷◌, ◌++◌, IfOk, IfSome, OnOk, Option, Some, codes, decimal, map};
+ghost use Rattle.std.specs.Prelude.{◌≡◌, ℕ, ◌+◌, List, [], ◌∷◌, ◌++◌, IfOk, IfSome, OnOk, Option, Some, codes, decimal, map, option_map};
 ghost use Rattle.pec_directory.specs.Directory.{first_domain, providers_of};
 ghost use Rattle.pec_letters.specs.Anomalies.{anomaly_name};
 ghost use Rattle.pec_ledger.specs.Half.{Half};
@@ -8,7 +8,7 @@ ghost use Rattle.pec_ledger.specs.Pairs.{id_of};
 ghost use Rattle.pec_ledger.specs.Trade.{Trade};
 ghost use Rattle.pec_provider.specs.OfTrades.{refused_facts};
 ghost use Rattle.pec_provider.specs.Telling.{recipients_taken};
-ghost use Rattle.pec_extract.specs.LogRows.{about, bare, id_word, message_in, next_message, name_word, recipients_in, spaced, submits, told_with, wish_in};
+ghost use Rattle.pec_extract.specs.LogRows.{about, bare, id_word, next_message, name_word, original_in, recipients_in, spaced, submits, told_with, wish_in};
 
 use crate::told::{Told, about, bare};
 use crate::words::{addresses, copied, id_word, spaced};
@@ -31,23 +31,20 @@ pub(crate) fn submits(entry: &Entry) -> u64
     }
 }
 
-/// The message that an entry is about, where it is one that was accepted or taken here.
-pub(crate) fn message_in(me: u32, submitted: u64, entry: &Entry) -> Option<MsgId>
-    ensures { result ≡ message_in me submitted entry.now }
+/// The message of whose original, in the envelope that was taken here, the row of an entry tells the facts.
+pub(crate) fn original_in(entry: &Entry) -> Option<MsgId>
+    ensures { result ≡ original_in entry.now }
 {
     match entry {
-        Entry::Accepted { .. } => next_message(me, submitted),
         Entry::Took { id, .. } => Some(*id),
         Entry::Decided { id, .. } => Some(*id),
-        Entry::Charged { id, .. } => Some(*id),
-        Entry::Learned { id, .. } => Some(*id),
         Entry::Acked { id, .. } => Some(*id),
         _ => None,
     }
 }
 
 /// The next message that is submitted, of as many as a provider numbers.
-fn next_message(me: u32, submitted: u64) -> Option<MsgId>
+pub(crate) fn next_message(me: u32, submitted: u64) -> Option<MsgId>
     ensures { result ≡ next_message me submitted }
 {
     if submitted < MESSAGES {
@@ -61,14 +58,14 @@ fn next_message(me: u32, submitted: u64) -> Option<MsgId>
 }
 
 /// What of a row is told beside its entry: the directory, whose journal it is, the number of the entry, from 0, how many
-/// messages were submitted before it, the facts of the message that it is about, and for whom that was taken.
+/// messages were submitted before it, the facts that it tells, and for whom the message was taken.
 #[derive(Drop)]
 pub(crate) struct Beside<'a> {
     pub(crate) directory: &'a Directory,
     pub(crate) me: u32,
     pub(crate) number: u64,
     pub(crate) submitted: u64,
-    pub(crate) facts: Option<Facts>,
+    pub(crate) facts: Option<&'a Facts>,
     pub(crate) taken: &'a [Address],
 }
 
@@ -79,10 +76,9 @@ pub(crate) fn told_with(
     entry: &Entry,
 ) -> Result<Option<Told>, NoMemory>
     ensures { (trade : Trade) (half : Half) → IsOf beside.now.directory.now trade
-        → IfSome (message_in beside.now.me beside.now.submitted entry.now)
-        (λ id. beside.now.taken.now ≡ recipients_taken (taken_of half id))
+        → IfSome (original_in entry.now) (λ id. beside.now.taken.now ≡ recipients_taken (taken_of half id))
         → IfOk result (λ told. told ≡ told_with trade (providers_of beside.now.directory.now) beside.now.me half
-        beside.now.number beside.now.submitted beside.now.facts entry.now) }
+        beside.now.number beside.now.submitted (option_map (λ facts. facts.now) beside.now.facts) entry.now) }
 {
     match entry {
         Entry::Start { .. } => Ok(None),
@@ -129,16 +125,18 @@ pub(crate) fn told_with(
 /// A message was accepted, for all of its recipients.
 fn accepted(alloc: Global, beside: &Beside<'_>) -> Result<Told, NoMemory>
     ensures { IfOk result (λ told. told ≡ about (codes "accepted")
-        (id_word (providers_of beside.now.directory.now) (id_of beside.now.me beside.now.submitted)) beside.now.facts
-        (spaced (recipients_in beside.now.facts)) (wish_in beside.now.facts)) }
+        (id_word (providers_of beside.now.directory.now) (id_of beside.now.me beside.now.submitted))
+        (option_map (λ facts. facts.now) beside.now.facts)
+        (spaced (recipients_in (option_map (λ facts. facts.now) beside.now.facts)))
+        (wish_in (option_map (λ facts. facts.now) beside.now.facts))) }
 {
-    let recipients = recipients_in(alloc, &beside.facts)?;
-    let detail = wish_in(alloc, &beside.facts)?;
+    let recipients = recipients_in(alloc, beside.facts)?;
+    let detail = wish_in(alloc, beside.facts)?;
     about(
         alloc,
         b"accepted",
         own_word(alloc, beside)?,
-        &beside.facts,
+        beside.facts,
         spaced(alloc, &recipients)?,
         detail,
     )
@@ -171,13 +169,13 @@ fn not_accepted(
         (spaced (addresses_of (refused_facts account.now path.now message.now)))
         cause.now) }
 {
-    let facts = Some(refused_facts(alloc, account, path, message)?);
-    let recipients = recipients_in(alloc, &facts)?;
+    let facts = refused_facts(alloc, account, path, message)?;
+    let recipients = recipients_in(alloc, Some(&facts))?;
     about(
         alloc,
         b"not-accepted",
         own_word(alloc, beside)?,
-        &facts,
+        Some(&facts),
         spaced(alloc, &recipients)?,
         copied(alloc, cause)?,
     )
@@ -186,14 +184,14 @@ fn not_accepted(
 /// A message was taken.
 fn took(alloc: Global, beside: &Beside<'_>, id: MsgId) -> Result<Told, NoMemory>
     ensures { IfOk result (λ told. told ≡ about (codes "took") (id_word (providers_of beside.now.directory.now) id)
-        beside.now.facts (spaced beside.now.taken.now) []) }
+        (option_map (λ facts. facts.now) beside.now.facts) (spaced beside.now.taken.now) []) }
 {
     let recipients = spaced(alloc, beside.taken)?;
     about(
         alloc,
         b"took",
         id_word(alloc, beside.directory, id)?,
-        &beside.facts,
+        beside.facts,
         recipients,
         Vec::new(alloc),
     )
@@ -209,14 +207,14 @@ fn of_recipient(
     detail: &[u8],
 ) -> Result<Told, NoMemory>
     ensures { IfOk result (λ told. told ≡ about event.now (id_word (providers_of beside.now.directory.now) id)
-        beside.now.facts recipient.now detail.now) }
+        (option_map (λ facts. facts.now) beside.now.facts) recipient.now detail.now) }
 {
     let recipient = copied(alloc, recipient.bytes())?;
     about(
         alloc,
         event,
         id_word(alloc, beside.directory, id)?,
-        &beside.facts,
+        beside.facts,
         recipient,
         copied(alloc, detail)?,
     )
@@ -225,17 +223,17 @@ fn of_recipient(
 /// A provider took charge of a message for those of its recipients that are at home there.
 fn charged(alloc: Global, beside: &Beside<'_>, id: MsgId, by: u32) -> Result<Told, NoMemory>
     ensures { (trade : Trade) → IsOf beside.now.directory.now trade → IfOk result (λ told. told ≡ about (codes "charged")
-        (id_word (providers_of beside.now.directory.now) id) beside.now.facts
-        (spaced (at_home trade by (recipients_in beside.now.facts)))
+        (id_word (providers_of beside.now.directory.now) id) (option_map (λ facts. facts.now) beside.now.facts)
+        (spaced (at_home trade by (recipients_in (option_map (λ facts. facts.now) beside.now.facts))))
         (name_word (providers_of beside.now.directory.now) by)) }
 {
-    let recipients = recipients_in(alloc, &beside.facts)?;
+    let recipients = recipients_in(alloc, beside.facts)?;
     let recipients = at_home(alloc, beside.directory, by, &recipients)?;
     about(
         alloc,
         b"charged",
         id_word(alloc, beside.directory, id)?,
-        &beside.facts,
+        beside.facts,
         spaced(alloc, &recipients)?,
         name_word(alloc, beside.directory, by)?,
     )
@@ -273,8 +271,9 @@ fn alone(alloc: Global, event: &'static [u8]) -> Told
 }
 
 /// The addresses of a message's recipients.
-fn recipients_in(alloc: Global, facts: &Option<Facts>) -> Result<Vec<Address>, NoMemory>
-    ensures { IfOk result (λ recipients. recipients.items ≡ recipients_in facts.now) }
+fn recipients_in(alloc: Global, facts: Option<&Facts>) -> Result<Vec<Address>, NoMemory>
+    ensures { IfOk result (λ recipients. recipients.items
+        ≡ recipients_in (option_map (λ facts. facts.now) facts.entry)) }
 {
     match facts {
         Some(facts) => addresses(alloc, facts.recipients.as_slice()),
@@ -283,8 +282,8 @@ fn recipients_in(alloc: Global, facts: &Option<Facts>) -> Result<Vec<Address>, N
 }
 
 /// The word of a message's wish.
-fn wish_in(alloc: Global, facts: &Option<Facts>) -> Result<Vec<u8>, NoMemory>
-    ensures { IfOk result (λ word. word.items ≡ wish_in facts.now) }
+fn wish_in(alloc: Global, facts: Option<&Facts>) -> Result<Vec<u8>, NoMemory>
+    ensures { IfOk result (λ word. word.items ≡ wish_in (option_map (λ facts. facts.now) facts.entry)) }
 {
     match facts {
         Some(facts) => copied(alloc, facts.wish.word()),

@@ -1,4 +1,4 @@
-ghost use Rattle.std.specs.Prelude.{◌≡◌, [], Some, None, IfOk, codes, map};
+ghost use Rattle.std.specs.Prelude.{◌≡◌, [], Some, None, IfOk, codes, map, option_map};
 ghost use Rattle.pec_extract.specs.LogRows.{about, bare};
 
 use crate::words::{copied, text_word};
@@ -56,11 +56,12 @@ pub(crate) fn about(
     alloc: Global,
     event: &'static [u8],
     id: Vec<u8>,
-    facts: &Option<Facts>,
+    facts: Option<&Facts>,
     recipients: Vec<u8>,
     detail: Vec<u8>,
 ) -> Result<Told, NoMemory>
-    ensures { IfOk result (λ told. told ≡ about event.now id.items facts.now recipients.items detail.items) }
+    ensures { IfOk result (λ told. told ≡ about event.now id.items (option_map (λ facts. facts.now) facts.entry)
+        recipients.items detail.items) }
 {
     match facts {
         Some(facts) => Ok(Told {

@@ -74,9 +74,59 @@ impl<D: Disk> Provider<D> {
         };
         facts_taken(alloc, house, &mut self.chronicle, &self.shelf, id, number)
     }
+
+    /// The facts of the original of a message that this provider took, in whose entry they are read, also where it
+    /// accepted the message itself. The first of these refusals that applies is answered: `Down`; `NoItem` exactly where
+    /// it didn't take the message; `NoMemory`, `DiskFault`, or `Changed` with the number of an entry that holds no
+    /// envelope of the message. After the last two the provider is down, and else it is as it was.
+    pub fn facts_taken<S: Sealer>(
+        &mut self,
+        alloc: Global,
+        house: &House<'_, S>,
+        id: MsgId,
+    ) -> Result<Facts, ProviderFault>
+        requires runs { RunsIn house.now self.old }
+
+        // Over a disk that tells what it holds, and on which what is kept stands, they are those of the original.
+        ensures told { D.tells → Stands D.sight self.old.chronicle → IfOk result (λ facts.
+            facts_taken (world_at house.now) house.now.me self.old.chronicle.entries id ≡ Some facts) }
+        ensures taken { OnOk result
+            (is_some (taken_of (half (world_at house.now) house.now.me self.old.chronicle.entries) id) ≡ true) }
+        ensures refused { IfErr result (IsUntoldOf (not self.old.chronicle.down) false
+            (is_some (taken_of (half (world_at house.now) house.now.me self.old.chronicle.entries) id))) }
+        ensures changed { D.tells → Stands D.sight self.old.chronicle → IfErr result (OnChanged
+            (IsNotOf (world_at house.now) house.now.me self.old.chronicle.entries (letters.Charge id house.now.me))) }
+        ensures reads { Reads (desk_of self.old) (desk_of self.new) result }
+        ensures owed { self.new.owed ≡ self.old.owed }
+        ensures runs { RunsIn house.now self.new }
+        ensures carries { D.tells → CarriesOn D.sight NothingMay self.old.chronicle self.new.chronicle }
+        ensures disk_fault { IsErrOf result faults.DiskFault → HasRisen (D.faults self.old.chronicle.disk)
+            (D.faults self.new.chronicle.disk) }
+        ensures later { D.faults self.old.chronicle.disk ≤ D.faults self.new.chronicle.disk }
+    {
+        a_house_is_a_trade(house);
+        stands_still(&self.chronicle);
+        if self.is_down() {
+            return Err(ProviderFault::Down);
+        }
+        let Some(number) = self.shelf.took(id) else {
+            return Err(ProviderFault::NoItem);
+        };
+        facts_taken(alloc, house, &mut self.chronicle, &self.shelf, id, number)
+    }
 }
 
 impl<D> Provider<D> {
+    /// The facts of a message that was accepted here, also while the provider is down; none of another one. It takes no
+    /// memory.
+    pub fn facts_accepted(&self, id: MsgId) -> Option<&Facts>
+        ensures { (kept : List Kept) (seals : Seals) (me : ℕ) (trade : Trade) → Runs kept seals me self.now → IsOf kept trade
+            → option_map (λ facts. facts.now) result
+            ≡ own_facts me (half trade me self.now.chronicle.entries) id }
+    {
+        own_facts(&self.shelf, self.shelf.me(), id)
+    }
+
     /// The recipients for which a message was taken here, in the order of its envelope; none where it wasn't. It takes
     /// no memory.
     pub fn recipients_taken(&self, id: MsgId) -> &[Address]

@@ -14,7 +14,8 @@ loop-number-init g c = (
   log_begins g.D.Disk.tells g.D.Disk.sight g.D.Counted.faults c.args.house.now.directory.now
       (g.S.Sealer.seals c.args.house.now.sealer.now) (world_at c.args.house.now)
       (providers_of c.args.house.now.directory.now) c.args.house.now.me c.args.from c.args.upto c.args.provider.now
-      (g.W.Stream.held c.args.out.now) c.requires.runs c.a_provider_stands_still.ensures,
+      (g.W.Stream.held c.args.out.now) c.new-remembered.result c.new-remembered.ensures c.requires.runs
+      c.a_provider_stands_still.ensures,
   (omega arith, (refl, grown_none (g.W.Stream.held c.args.out.now))),
 )
 
@@ -24,7 +25,7 @@ write_entry-requires-clause-there g c =
     (g.S.Sealer.seals c.args.house.now.sealer.now) (world_at c.args.house.now)
     (providers_of c.args.house.now.directory.now) c.args.house.now.me c.args.from c.args.upto c.args.provider.now
     (g.W.Stream.held c.args.out.now) c.loop-number.number c.loop-number.submitted c.loop-number.provider
-    (g.W.Stream.held c.loop-number.out) c.loop-number.invariant.0
+    (g.W.Stream.held c.loop-number.out) c.loop-number.remembered c.loop-number.invariant.0
     (omega (
       arith,
       c.loop-number-test.true,
@@ -38,8 +39,8 @@ loop-number-preserved g c = (
       (g.S.Sealer.seals c.args.house.now.sealer.now) (world_at c.args.house.now)
       (providers_of c.args.house.now.directory.now) c.args.house.now.me c.args.from c.args.upto c.args.provider.now
       (g.W.Stream.held c.args.out.now) c.loop-number.number c.loop-number.submitted c.loop-number.provider
-      (g.W.Stream.held c.loop-number.out) c.loop-number.invariant.0 c.write_entry.new.provider
-      (g.W.Stream.held c.write_entry.new.out) c.in_ok-submitted.field-0 c.in_ok-submitted.ensures.reads
+      (g.W.Stream.held c.loop-number.out) c.loop-number.remembered c.loop-number.invariant.0 c.write_entry.new.provider
+      (g.W.Stream.held c.write_entry.new.out) c.write_entry.new.remembered c.in_ok-submitted.field-0 c.in_ok-submitted.ensures.reads
       c.in_ok-submitted.ensures.owed c.in_ok-submitted.ensures.runs c.in_ok-submitted.ensures.carries
       c.in_ok-submitted.ensures.disk_later c.in_ok-submitted.ensures.few
       (omega (
@@ -48,7 +49,7 @@ loop-number-preserved g c = (
         c.entries-number-end.ensures c.args.house.now.directory.now (g.S.Sealer.seals c.args.house.now.sealer.now)
             c.args.house.now.me (world_at c.args.house.now) c.requires.runs c.a_house_is_a_trade.ensures.of,
       ))
-      c.in_ok-submitted.ensures.row c.in_ok-submitted.ensures.more,
+      c.in_ok-submitted.ensures.taken c.in_ok-submitted.ensures.row c.in_ok-submitted.ensures.more,
   (
     omega (arith, c.loop-number.invariant.1.0, c.in_ok-submitted.ensures.later),
     (
@@ -66,7 +67,7 @@ returns-in_err-submitted-clause-front g c = λ tells stands.
     (g.S.Sealer.seals c.args.house.now.sealer.now) (world_at c.args.house.now)
     (providers_of c.args.house.now.directory.now) c.args.house.now.me c.args.from c.args.upto c.args.provider.now
     (g.W.Stream.held c.args.out.now) c.loop-number.number c.loop-number.submitted c.loop-number.provider
-    (g.W.Stream.held c.loop-number.out) c.loop-number.invariant.0 c.write_entry.new.provider
+    (g.W.Stream.held c.loop-number.out) c.loop-number.remembered c.loop-number.invariant.0 c.write_entry.new.provider
     (g.W.Stream.held c.write_entry.new.out)
     (omega (
       arith,
@@ -82,7 +83,7 @@ returns-in_err-submitted-clause-carries g c =
     (g.S.Sealer.seals c.args.house.now.sealer.now) (world_at c.args.house.now)
     (providers_of c.args.house.now.directory.now) c.args.house.now.me c.args.from c.args.upto c.args.provider.now
     (g.W.Stream.held c.args.out.now) c.loop-number.number c.loop-number.submitted c.loop-number.provider
-    (g.W.Stream.held c.loop-number.out) c.loop-number.invariant.0 c.write_entry.new.provider c.in_err-submitted.ensures.carries
+    (g.W.Stream.held c.loop-number.out) c.loop-number.remembered c.loop-number.invariant.0 c.write_entry.new.provider c.in_err-submitted.ensures.carries
 
 pub returns-clause-rows : goal.returns-clause-rows
 returns-clause-rows g c = λ tells stands.
@@ -90,7 +91,7 @@ returns-clause-rows g c = λ tells stands.
     (g.S.Sealer.seals c.args.house.now.sealer.now) (world_at c.args.house.now)
     (providers_of c.args.house.now.directory.now) c.args.house.now.me c.args.from c.args.upto c.args.provider.now
     (g.W.Stream.held c.args.out.now) c.loop-number.number c.loop-number.submitted c.loop-number.provider
-    (g.W.Stream.held c.loop-number.out) c.loop-number.invariant.0
+    (g.W.Stream.held c.loop-number.out) c.loop-number.remembered c.loop-number.invariant.0
     (omega (
       arith,
       c.loop-number-test.false,
@@ -109,7 +110,7 @@ returns-clause-totals g c =
     (g.S.Sealer.seals c.args.house.now.sealer.now) (world_at c.args.house.now)
     (providers_of c.args.house.now.directory.now) c.args.house.now.me c.args.from c.args.upto c.args.provider.now
     (g.W.Stream.held c.args.out.now) c.loop-number.number c.loop-number.submitted c.loop-number.provider
-    (g.W.Stream.held c.loop-number.out) c.loop-number.invariant.0))
+    (g.W.Stream.held c.loop-number.out) c.loop-number.remembered c.loop-number.invariant.0))
 
 pub returns-in_err-submitted-clause-grown : goal.returns-in_err-submitted-clause-grown
 returns-in_err-submitted-clause-grown g c =
