@@ -1,5 +1,5 @@
 -- Bytes are one directory, or are refused for one reason: what is told of texts of LDIF and of TOML is put together.
-use Rattle.std.proofs.Common.{◌≡◌, Bool, true, false, cond, List, Result, Ok, Err, refl, sym, ◌∙◌, ap, subst}
+use Rattle.std.proofs.Common.{◌≡◌, Bool, true, false, cond, List, Result, Ok, Err, refl, sym, ◌∙◌, ap}
 use Rattle.std.proofs.lemmas.Bool.{false≢true}
 use Rattle.std.specs.Str.{is_utf8}
 use Rattle.pec_types.specs.Answers.{TellsExactly}
@@ -14,8 +14,7 @@ use Rattle.pec_directory.specs.declared.faults.DirectoryFault.TheVariants.{NotTo
 use Rattle.pec_ldif.specs.Directories.{IsLdifDirectory, IsLdifRefusal, directory_in_ldif, of_table}
 use Rattle.pec_ldif.specs.FirstLine.{is_ldif}
 use Rattle.pec_ldif.specs.Writing.{ldif_text}
-use Rattle.pec_ldif.specs.declared.faults.LdifFault.{LdifFault}
-use Rattle.pec_ldif.specs.declared.refusals.LdifRefused.TheVariants.{Ldif, Directory, NoMemory}
+use Rattle.pec_ldif.specs.declared.refusals.LdifRefused.TheVariants.{Directory}
 use Rattle.pec_input.specs.Directory.{IsDirectoryIn, IsRefusal, Refusal, RefusedAsBytes, RefusedAsLdif, RefusedAsToml, SaidInLdif, SaidInToml, directory_in, directory_in_toml}
 
 abbrev pub LdifTold : Type 0

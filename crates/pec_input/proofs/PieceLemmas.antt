@@ -1,79 +1,63 @@
 -- Bytes up to their first line feed: where they are cut, and what is moved to a line.
-use Rattle.std.proofs.Common.{◌≡◌, ℕ, suc, ◌+◌, ◌<◌, Bool, true, false, cond, eqb, ◌||◌, [], ◌∷◌, ◌++◌, length, take, drop, position, Option, Some, None, MatchOption, MatchBool, refl, sym, ◌∙◌, ap, subst, arith, append_assoc, eqb-true, length-append}
+use Rattle.std.proofs.Common.{◌≡◌, ℕ, zero, suc, ◌+◌, ◌<◌, Bool, true, false, cond, eqb, ◌||◌, [], ◌∷◌, ◌++◌, length, take, drop, Option, Some, None, MatchBool, refl, sym, ◌∙◌, ap, subst, arith, append_assoc, eqb-true, length-append}
 use Rattle.std.proofs.lemmas.Bool.{false≢true, eqb-false}
-use Rattle.std.proofs.lemmas.Iterator.Adapters.{position_from-zero}
 use Rattle.std.proofs.lemmas.List.{length-take-le}
-use Rattle.std.specs.List.{position_from}
+use Rattle.memchr.specs.Find.{IsFirstByte}
 use Rattle.pec_types.specs.Bytes.{Bytes, line_feed}
 use Rattle.pec_outside.specs.Flow.{behind}
 use Rattle.pec_input.specs.Finding.{IsEnded}
 use Rattle.pec_input.specs.Lines.{HasNoEnd}
 use Rattle.pec_input.specs.Pieces.{after_piece, first_piece, has_feed, is_feed}
 
-pub record HasFeedAt (bytes : Bytes) (from at : ℕ) : Type 0 where
-  pub place : ℕ
-  pub is : at ≡ from + place
-  pub within : place < length bytes
-  pub piece : take (suc place) bytes ≡ first_piece bytes
-  pub rest : drop (suc place) bytes ≡ after_piece bytes
-  pub feed : has_feed bytes ≡ true
-
 pub record HasNoFeed (bytes : Bytes) : Type 0 where
   pub piece : first_piece bytes ≡ bytes
   pub rest : after_piece bytes ≡ []
   pub feed : has_feed bytes ≡ false
 
-abbrev FeedTells : Bytes → ℕ → Option ℕ → Type 0
-FeedTells bytes from answer = MatchOption answer (HasNoFeed bytes) (λ at. HasFeedAt bytes from at)
+fails : (t : Bool) → (t ≡ true → ⊥) → t ≡ false
+fails true n = absurd (n refl)
+fails false n = refl
 
-feed_further : (b : ℕ) (bs : Bytes) (from : ℕ) (answer : Option ℕ) → eqb b line_feed ≡ false
-    → FeedTells bs (from + 1) answer → FeedTells (b ∷ bs) from answer
-feed_further b bs from None other told =
-    record { piece = rw other (ap (λ x. b ∷ x) told.piece); rest = rw other told.rest; feed = rw other told.feed }
-feed_further b bs from (Some at) other told = record {
-  place = suc told.place;
-  is = omega (arith, told.is);
-  within = omega (arith, told.within);
-  piece = rw other (ap (λ x. b ∷ x) told.piece);
-  rest = rw other told.rest;
-  feed = rw other told.feed;
-}
+pub no_feed : (bytes : Bytes) → IsFirstByte is_feed bytes None → HasNoFeed bytes
+no_feed [] nowhere = record { piece = refl; rest = refl; feed = refl }
+no_feed (b ∷ bs) nowhere =
+    let other : eqb b line_feed ≡ false = fails (eqb b line_feed) (nowhere 0 (omega arith) (omega arith)) in
+    let behind = no_feed bs (λ k low below. nowhere (suc k) (omega arith) (omega (arith, below))) in
+    record { piece = rw other (ap (λ x. b ∷ x) behind.piece); rest = rw other behind.rest; feed = rw other behind.feed }
 
-feed_step : (b : ℕ) (bs : Bytes) (from : ℕ) (x : Bool) → eqb b line_feed ≡ x
-    → FeedTells bs (from + 1) (position_from is_feed (from + 1) bs)
-    → FeedTells (b ∷ bs) from (cond x (Some from) (position_from is_feed (from + 1) bs))
-feed_step b bs from true here told =
-    record {
-      place = 0;
-      is = omega arith;
-      within = omega arith;
-      piece = rw here refl;
-      rest = rw here refl;
-      feed = rw here refl;
-    }
-feed_step b bs from false other told = feed_further b bs from (position_from is_feed (from + 1) bs) other told
+pub record HasFeedAt (bytes : Bytes) (at : ℕ) : Type 0 where
+  pub piece : take (suc at) bytes ≡ first_piece bytes
+  pub rest : drop (suc at) bytes ≡ after_piece bytes
+  pub feed : has_feed bytes ≡ true
 
-feed_from : (bytes : Bytes) (from : ℕ) → FeedTells bytes from (position_from is_feed from bytes)
-feed_from [] from = record { piece = refl; rest = refl; feed = refl }
-feed_from (b ∷ bs) from = feed_step b bs from (eqb b line_feed) refl (feed_from bs (from + 1))
-
-feed_told : (bytes : Bytes) → FeedTells bytes 0 (position is_feed bytes)
-feed_told bytes = subst (λ o. FeedTells bytes 0 o) (sym (position_from-zero is_feed bytes)) (feed_from bytes 0)
-
-pub no_feed : (bytes : Bytes) → None ≡ position is_feed bytes → HasNoFeed bytes
-no_feed bytes none = subst (λ o. FeedTells bytes 0 o) (sym none) (feed_told bytes)
+feed_told : (bytes : Bytes) (at : ℕ) → IsFirstByte is_feed bytes (Some at) → HasFeedAt bytes at
+feed_told [] at is = absurd (omega (arith, is.0.high))
+feed_told (b ∷ bs) zero is =
+    let here : eqb b line_feed ≡ true = is.1 in
+    record { piece = rw here refl; rest = rw here refl; feed = rw here refl }
+feed_told (b ∷ bs) (suc at) is =
+    let other : eqb b line_feed ≡ false = fails (eqb b line_feed) (is.0.before 0 (omega arith) (omega arith)) in
+    let high : suc at < suc (length bs) = is.0.high in
+    let behind = feed_told bs at (
+      record {
+        low = omega arith;
+        high = omega (arith, high);
+        before = λ k low below. is.0.before (suc k) (omega arith) (omega (arith, below));
+      },
+      is.1,
+    ) in
+    record { piece = rw other (ap (λ x. b ∷ x) behind.piece); rest = rw other behind.rest; feed = rw other behind.feed }
 
 pub record IsCutAt (bytes : Bytes) (at : ℕ) : Type 0 where
   pub piece : take (at + 1) bytes ≡ first_piece bytes
   pub rest : drop (length (take (at + 1) bytes)) bytes ≡ after_piece bytes
   pub feed : has_feed bytes ≡ true
 
-pub feed_at : (bytes : Bytes) (at : ℕ) → Some at ≡ position is_feed bytes → IsCutAt bytes at
+pub feed_at : (bytes : Bytes) (at : ℕ) → IsFirstByte is_feed bytes (Some at) → IsCutAt bytes at
 feed_at bytes at found =
-    let told : HasFeedAt bytes 0 at = subst (λ o. FeedTells bytes 0 o) (sym found) (feed_told bytes) in
-    let same : suc told.place ≡ at + 1 = omega (arith, told.is) in
-    let size : length (take (at + 1) bytes) ≡ at + 1 =
-    length-take-le (at + 1) bytes (omega (arith, told.is, told.within)) in
+    let told = feed_told bytes at found in
+    let same : suc at ≡ at + 1 = omega arith in
+    let size : length (take (at + 1) bytes) ≡ at + 1 = length-take-le (at + 1) bytes (omega (arith, found.0.high)) in
     record {
       piece = subst (λ n. take n bytes ≡ first_piece bytes) same told.piece;
       rest = ap (λ n. drop n bytes) size ∙ subst (λ n. drop n bytes ≡ after_piece bytes) same told.rest;

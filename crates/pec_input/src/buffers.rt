@@ -1,4 +1,5 @@
-ghost use Rattle.std.specs.Prelude.{◌≡◌, ◌<◌, ◌≤◌, ◌^◌, [], ◌++◌, length, drop, position, MatchBool, IfOk, IfSome, OnOk, IsErrOf};
+ghost use Rattle.std.specs.Prelude.{◌≡◌, ◌<◌, ◌≤◌, ◌^◌, [], ◌++◌, length, drop, MatchBool, IfOk, OnOk, IsErrOf};
+ghost use Rattle.memchr.specs.Find.{IsFirstByte};
 ghost use Rattle.pec_outside.specs.Flow.{behind, HasRisen};
 ghost use Rattle.pec_types.specs.Bytes.{Bytes};
 ghost use Rattle.pec_input.specs.Finding.{IsAtEnd, IsFound, found_in};
@@ -6,6 +7,7 @@ ghost use Rattle.pec_input.specs.Pieces.{after_piece, first_piece, has_feed, is_
 ghost use Rattle.pec_input.specs.declared.buffers.InputFault.TheVariants as faults;
 
 use crate::lines::content;
+use memchr::memchr;
 use pec_outside::{Failed, Source};
 use std::alloc::{AllocError, Global};
 use std::marker::Model;
@@ -183,8 +185,7 @@ fn cut_piece(bytes: &[u8]) -> (&[u8], bool)
 }
 
 fn line_feed(bytes: &[u8]) -> Option<usize>
-    ensures place { result ≡ position is_feed bytes.now }
-    ensures within { IfSome result (λ at. at < length bytes.now) }
+    ensures { IsFirstByte is_feed bytes.now result }
 {
-    bytes.iter().position(|b| *b == b'\n')
+    memchr(b'\n', bytes)
 }
