@@ -1,5 +1,5 @@
 -- A head ends where its lines say.
-use Rattle.std.proofs.Common.{◌≡◌, ℕ, ◌+◌, ◌<◌, ◌≤◌, ◌↔◌, ◌⊎◌, inl, inr, refl, sym, ◌∙◌, subst, arith}
+use Rattle.std.proofs.Common.{◌≡◌, ℕ, ◌+◌, ◌<◌, ◌≤◌, ◌↔◌, inl, inr, subst, arith}
 use Rattle.pec_types.specs.Bytes.{Bytes}
 use Rattle.pec_http_head.specs.Cuts.{WholeCut, Ends, TooLarge, Short, cut_of}
 use Rattle.pec_http_head.specs.HeadEnds.{BeginsWith, IsHead, IsWholeCut}

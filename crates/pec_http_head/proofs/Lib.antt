@@ -1,5 +1,10 @@
+pub mod AsciiLemmas
 pub mod EndLemmas
 pub mod HeadLemmas
+pub mod PartLemmas
 pub mod PathLemmas
+pub mod PatternLemmas
+pub mod RouterLemmas
 pub mod RunLemmas
 pub mod SeenLemmas
+pub mod WalkLemmas

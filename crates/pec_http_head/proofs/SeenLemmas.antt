@@ -1,5 +1,5 @@
 -- What is seen of a request is one thing, since the grammar of heads has one reading.
-use Rattle.std.proofs.Common.{◌≡◌, List, [], take, drop, Option, Some, None, refl, sym, ap, ◌∙◌}
+use Rattle.std.proofs.Common.{◌≡◌, [], take, drop, Option, Some, None, refl, sym, ap, ◌∙◌}
 use Rattle.httparse.proofs.GrammarLemmas.{request_unique}
 use Rattle.pec_types.specs.Bytes.{Bytes}
 use Rattle.pec_http_head.specs.Cuts.{WholeCut, Ends, TooLarge, Short, cut_of}

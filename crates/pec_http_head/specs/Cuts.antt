@@ -1,7 +1,7 @@
 -- Where the head of a request ends: `cut_of`, at the end. A line ends with LF or CRLF, and is empty where nothing else
 -- stands in it. The head ends with the first empty line behind one that isn't empty (RFC 9112, section 2.1 and 2.2). It
 -- may have 65,536 bytes, and 64 lines between its first line that isn't empty and its end. This project's profile.
-use Rattle.std.specs.Prelude.{◌≡◌, ◌≤◌, ⊤, ℕ, ◌+◌, ◌==◌, nat_lt, List, [], ◌∷◌, Option, Some, None, if◌then◌else◌}
+use Rattle.std.specs.Prelude.{◌≡◌, ◌≤◌, ⊤, ℕ, ◌+◌, ◌==◌, nat_lt, [], ◌∷◌, Option, Some, None, if◌then◌else◌}
 use Rattle.pec_types.specs.Bytes.{Bytes, carriage_return, line_feed}
 use Rattle.pec_http_head.specs.declared.stands.Stand.{Stand}
 use Rattle.pec_http_head.specs.declared.stands.Stand.TheVariants.{Blank, BlankReturn, InLine, Begins, BeginsReturn}

@@ -1,6 +1,6 @@
 -- What an HTTP request's bytes are: `Sees`, at the end. The head is cut from them by `Cuts`, and read by the grammar of
 -- `httparse` (RFC 9112, sections 2 to 5), with room for 64 fields.
-use Rattle.std.specs.Prelude.{◌≡◌, ℕ, ◌≤◌, List, [], length, take, drop, map, Option, Some, None}
+use Rattle.std.specs.Prelude.{◌≡◌, ◌≤◌, List, [], length, take, drop, map, Option, Some, None}
 use Rattle.httparse.specs.Grammar.{ReadsRequest, RequestHead}
 use Rattle.httparse.specs.Spans.{name_and_value}
 use Rattle.pec_types.specs.Bytes.{Bytes}

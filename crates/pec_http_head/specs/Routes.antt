@@ -1,6 +1,6 @@
 -- The routes of a request's target: `route_of`, at the end. The whole target is the path (RFC 9112, section 3.2.1):
 -- nothing is cut off at a `?`, and `http://host/..` is no route. This project's profile.
-use Rattle.std.specs.Prelude.{ℕ, ◌+◌, ◌==◌, ◌&&◌, Bool, [], ◌∷◌, zero, suc, take, drop, codes, position, Option, Some, None, option_map, if◌then◌else◌}
+use Rattle.std.specs.Prelude.{ℕ, ◌+◌, ◌==◌, Bool, [], ◌∷◌, zero, suc, take, drop, codes, position, Option, Some, option_map, if◌then◌else◌}
 use Rattle.std.specs.Result.{result_ok}
 use Rattle.std.specs.Str.{bytes_eq}
 use Rattle.pec_types.specs.AddressReading.{address_of}

@@ -1,5 +1,5 @@
 -- What contracts see of the parts of a head.
-use Rattle.std.specs.Prelude.{List, map}
+use Rattle.std.specs.Prelude.{map}
 use Rattle.pec_types.specs.Bytes.{Bytes}
 use Rattle.pec_http_head.specs.Requests.{Request}
 use Rattle.pec_http_head.specs.declared.heads.Field.{Field}

@@ -7,6 +7,7 @@ mod fields;
 mod heads;
 mod laws;
 mod paths;
+mod patterns;
 mod routes;
 mod stands;
 
@@ -15,5 +16,6 @@ pub use heads::{Field, Head};
 pub use laws::{
     a_head_ends_in_one_place, a_request_is_seen_in_one_way, a_spaced_path_has_one_reading,
 };
+pub use patterns::Patterns;
 pub use routes::{Call, Route};
 pub use stands::{HEAD_BYTES, HEAD_LINES, Scan, Stand};

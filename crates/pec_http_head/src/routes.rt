@@ -1,8 +1,8 @@
-ghost use Rattle.std.specs.Prelude.{◌≡◌, ◌<◌, length, position, IfOk, IfSome, codes};
-ghost use Rattle.std.specs.Option.{option_map};
-ghost use Rattle.pec_types.specs.Bytes.{after_front};
-ghost use Rattle.pec_http_head.specs.Routes.{account_in, call_in, is_sign, is_slash, method_of, place_in, route_of, segment_at, signs_read};
+ghost use Rattle.std.specs.Prelude.{◌≡◌, IfOk};
+ghost use Rattle.pec_http_head.specs.Patterns.{call_as};
+ghost use Rattle.pec_http_head.specs.Routes.{account_in, is_sign, method_of, place_in, route_of, signs_read};
 
+use crate::patterns::{Asked, Patterns, Spelled};
 use pec_types::{Address, NoMemory};
 use pec_words::number_below;
 use std::alloc::Global;
@@ -43,42 +43,40 @@ impl Call {
 
 impl Route {
     /// The route of a target, `None` where it has none.
-    #[tactic(auto, unfolding(crate::specs::Routes::route_of))]
-    pub fn read(alloc: Global, target: &[u8]) -> Result<Option<Route>, NoMemory>
+    pub fn read(
+        alloc: Global,
+        patterns: &Patterns,
+        target: &[u8],
+    ) -> Result<Option<Route>, NoMemory>
         ensures { IfOk result (λ found. found ≡ route_of target.now) }
     {
-        let Some(behind) = after_front(b"/mail/".as_slice(), target) else {
+        let Some(found) = patterns.find(target) else {
             return Ok(None);
         };
-        let Some((segment, rest)) = segment_at(behind) else {
+        let Some(call) = call_of(&found) else {
             return Ok(None);
         };
-        let Some(call) = call_in(rest) else {
-            return Ok(None);
-        };
-        let Some(address) = account_in(alloc, segment)? else {
+        let Some(address) = account_in(alloc, found.account)? else {
             return Ok(None);
         };
         Ok(Some(Route { address, call }))
     }
 }
 
-#[tactic(auto, unfolding(crate::specs::Routes::call_in))]
-fn call_in(text: &[u8]) -> Option<Call>
-    ensures { result ≡ call_in text.now }
+/// What is asked of an account, `None` where the place is no number.
+#[tactic(auto, unfolding(crate::specs::Patterns::call_as))]
+fn call_of(found: &Spelled<'_>) -> Option<Call>
+    ensures { result ≡ call_as found.now.asked found.now.place.now }
 {
-    if text == b"submit".as_slice() {
-        return Some(Call::Submit);
+    match found.asked {
+        Asked::Submit => Some(Call::Submit),
+        Asked::Book => Some(Call::Book),
+        Asked::Items => Some(Call::Items),
+        Asked::Item => {
+            let place = place_in(found.place)?;
+            Some(Call::Item(place))
+        }
     }
-    if text == b"book".as_slice() {
-        return Some(Call::Book);
-    }
-    if text == b"items".as_slice() {
-        return Some(Call::Items);
-    }
-    let digits = after_front(b"items/".as_slice(), text)?;
-    let place = place_in(digits)?;
-    Some(Call::Item(place))
 }
 
 #[tactic(auto, unfolding(crate::specs::Routes::place_in))]
@@ -87,29 +85,6 @@ fn place_in(text: &[u8]) -> Option<u32>
 {
     let place = number_below(text, PLACES)?;
     Some(place as u32)
-}
-
-#[tactic(auto, unfolding(pec_types::specs::Bytes::after_front))]
-fn after_front<'a>(front: &[u8], text: &'a [u8]) -> Option<&'a [u8]>
-    ensures { option_map (λ rest. rest.now) result ≡ after_front front.now text.now }
-{
-    text.strip_prefix(front)
-}
-
-/// The text up to its first slash, and what stands behind that.
-#[tactic(auto, unfolding(crate::specs::Routes::segment_at))]
-fn segment_at(text: &[u8]) -> Option<(&[u8], &[u8])>
-    ensures { option_map (λ cut. (cut.0.now, cut.1.now)) result ≡ segment_at text.now }
-{
-    let at = slash(text)?;
-    Some((&text[..at], &text[at + 1..]))
-}
-
-fn slash(text: &[u8]) -> Option<usize>
-    ensures place { result ≡ position is_slash text.now }
-    ensures within { IfSome result (λ at. at < length text.now) }
-{
-    text.iter().position(|b| *b == b'/')
 }
 
 /// The address that a segment spells, each `%40` of it read as `@`.

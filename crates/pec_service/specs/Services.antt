@@ -42,7 +42,7 @@ pub data Ending : Type 0 where
   AllServed : Ending  -- as many connections were served as were asked for
   NoConnection : Ending  -- the door failed
   NoMoment : Ending  -- the clock did, and the connection that had come in was closed
-  Halted : Ending  -- the output failed or memory ran out, within a connection
+  Halted : Ending  -- the output failed or memory ran out, within a connection, or memory did before the first
 
 -- What happened in a service: the connections of which all was played, and the one within which it halted.
 pub record Service : Type 0 where

@@ -52,6 +52,22 @@ pub record ConnectionLaws (trade : Trade) (tells : Type 0) (kept : List Kept) : 
 
 -- ---- one connection, behind its line
 
+-- no memory for what is made once, before the first connection
+pub lacked_at_once : (trade : Trade) (tells : Type 0) (kept : List Kept) (wanted : ℕ) (here : Place) (before : Option Bytes)
+    → ServesSo trade tells kept wanted here here before before endings.NoMemory
+lacked_at_once trade tells kept wanted here before = record {
+  service = record { whole = []; part = None; ending = Halted };
+  is = record {
+    each = tt;
+    whole = All-nil (IsWhole kept);
+    ends = omega arith;
+    leaves = (Behind refl, refl);
+    later = λ provider. omega arith;
+  };
+  ending_is = refl;
+  written = followed_nothing before;
+}
+
 module _ (trade : Trade) (tells : Type 0) (kept : List Kept) (laws : CallLaws trade tells) (here there : Place) (moment : ℕ) (told : Served)
     (next : IsServedNext trade tells kept here there moment told) where
   abbrev connection : Connection
