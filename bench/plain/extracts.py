@@ -8,6 +8,8 @@ import texts
 
 HEADER = ["provider", "entry", "moment", "event", "id", "sender", "recipients", "subject", "detail"]
 GREATEST = 4_102_444_799
+# The entries whose rows tell the facts of an original, as it stands in the envelope that was taken.
+OF_ORIGINALS = ("Took", "Decided", "Acked")
 # No ranges: the form has other words.
 WRONG = ["", "1", "1 2 3", "2 1", "01 2", "1 02", "+1 2", "-1 2", "x 2", "1 4102444800", "4102444800 4102444800", "1  2"]
 
@@ -58,12 +60,13 @@ class Log:
             if "moment" in said and begin <= said["moment"] <= end:
                 yield number, name, said
 
-    def message(self, number, said):
-        """The message that an entry is about, and its facts; of one that was accepted here those of its own head."""
+    def message(self, number, name, said):
+        """The message that an entry is about, and its facts: those of the original in its envelope where it was taken,
+        decided and acknowledged, and else those of the message that was accepted here."""
         identity = self.own.get(number) or said.get("id")
-        if identity in self.accepted:
-            return identity, self.accepted[identity][1]
-        return identity, self.taken.get(identity)
+        if name in OF_ORIGINALS:
+            return identity, self.taken.get(identity)
+        return identity, self.accepted.get(identity, (None, None))[1]
 
     def rows(self, begin, end):
         for number, name, said in self.within(begin, end):
@@ -79,7 +82,7 @@ class Log:
             return b"anomaly", b"", b"", b" ".join(said["accounts"]), b"", item
         if name == "Archived":
             return b"archived", b"", b"", said["account"], b"", b"%d" % said["place"]
-        identity, read = self.message(number, said)
+        identity, read = self.message(number, name, said)
         text = self.directory.text(identity)
         if name == "NotAccepted":
             fields = (texts.head(said["message"]) or ([], 0))[0]
@@ -109,10 +112,10 @@ class Log:
         return found
 
     def reads(self, begin, end):
-        """How many reads of its disk the rows take: one of each entry, whatever its moment, and one of the envelope for
-        each row about a message that was only taken."""
-        about = [said.get("id") for _, _, said in self.within(begin, end)]
-        return len(self.entries) + sum(one in self.taken and one not in self.accepted for one in about)
+        """How many reads of its disk the rows take: one of each entry, whatever its moment, and one of the envelope of
+        each message that was taken, decided or acknowledged in the range."""
+        about = {said["id"] for _, name, said in self.within(begin, end) if name in OF_ORIGINALS}
+        return len(self.entries) + sum(one in self.taken for one in about)
 
 
 def logs(directory, kept):
