@@ -1,4 +1,0 @@
-mod BriefLemmas
-mod OutsideLemmas
-mod PutLemmas
-mod ShorteningLemmas

@@ -1,3 +1,0 @@
-pub mod Attachments
-pub mod BriefForm
-pub mod BriefReading

@@ -1,4 +1,0 @@
-//! Directories in LDIF.
-mod cut;
-mod faults;
-mod same;

@@ -1,4 +1,0 @@
-pub mod FindingLemmas
-pub mod GenuineLemmas
-pub mod HomeLemmas
-pub mod PairLemmas

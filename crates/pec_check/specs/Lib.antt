@@ -1,5 +1,0 @@
-pub mod Findings
-pub mod FindingsReading
-pub mod Genuine
-pub mod GenuineReading
-pub mod Views

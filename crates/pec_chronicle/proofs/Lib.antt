@@ -1,5 +1,0 @@
-pub mod EntryLemmas
-pub mod MakingLemmas
-pub mod NoFields
-pub mod ReadingLemmas
-pub mod StepLemmas

@@ -1,6 +1,0 @@
-pub mod LogRows
-pub mod Logs
-pub mod Reading
-pub mod Records
-pub mod Remembering
-pub mod RememberingLaws

@@ -1,9 +1,0 @@
-pub mod Asking
-pub mod Desks
-pub mod Input
-pub mod Replies
-pub mod Rows
-pub mod RowTests
-pub mod Serving
-pub mod Statuses
-pub mod Writing

@@ -1,8 +1,0 @@
-use Rattle.pec_input.proofs.TextLemmas.{text_there, no_text}
-use Rattle.pec_input.proofs.directory.as_text.Goals as goal
-
-pub returns-in-Ok : goal.returns-in-Ok
-returns-in-Ok c = text_there c.args.bytes.now c.in-Ok.text.now c.in-Ok.ensures.cases.0 c.in-Ok.ensures.cases.1
-
-pub returns-in-Err : goal.returns-in-Err
-returns-in-Err c = no_text c.args.bytes.now c.in-Err.ensures.cases.0

@@ -1,4 +1,0 @@
-pub mod AppendLemmas
-pub mod FileLemmas
-pub mod OneListLemmas
-pub mod ReopeningLemmas

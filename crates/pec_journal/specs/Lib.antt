@@ -1,4 +1,0 @@
-pub mod JournalFile
-pub mod JournalState
-pub mod Reopening
-pub mod Room

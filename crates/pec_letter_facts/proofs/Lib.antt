@@ -1,6 +1,0 @@
-mod LineLemmas
-mod LookupLemmas
-mod ReadBackLemmas
-mod CertLemmas
-mod QuestionLemmas
-mod MadeLemmas

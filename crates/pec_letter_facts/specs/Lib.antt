@@ -1,3 +1,0 @@
-pub mod Certifying
-pub mod Questions
-pub mod ReadBack

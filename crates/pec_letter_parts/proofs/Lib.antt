@@ -1,4 +1,0 @@
-pub mod PieceLemmas
-pub mod PutLemmas
-pub mod ToldLemmas
-pub mod LetterLemmas

@@ -1,7 +1,0 @@
-mod TextLemmas
-mod HeadingLemmas
-mod SeenLemmas
-mod PlaceLemmas
-mod RowLemmas
-mod AnomalyLemmas
-mod BehindLemmas

@@ -1,6 +1,0 @@
-mod AccountLemmas
-mod DirectoryLemmas
-mod LineLemmas
-mod PlainLemmas
-mod RangeLemmas
-mod RowLemmas

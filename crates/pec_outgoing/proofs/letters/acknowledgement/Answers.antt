@@ -1,9 +1,0 @@
--- The acknowledgement is composed of the original that the entry holds.
-use Rattle.pec_outgoing.proofs.letters.acknowledgement.Goals as goal
-
-pub returns-clause-composed : goal.returns-clause-composed
-returns-clause-composed g c = record {
-  original = c.in_ok-original.original.now;
-  holds = c.in_ok-original.ensures.holds;
-  is = c.in_ok-letter.ensures;
-}

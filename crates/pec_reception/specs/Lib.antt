@@ -1,4 +1,0 @@
-pub mod OfTrades
-pub mod Shows
-pub mod Standings
-pub mod Views

@@ -1,2 +1,0 @@
-pub mod ScheduleLemmas
-pub mod RoundPlanLemmas

@@ -1,3 +1,0 @@
-mod OccurrenceLemmas
-mod RuleLemmas
-mod VerdictLemmas

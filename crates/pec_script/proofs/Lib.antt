@@ -1,9 +1,0 @@
-pub mod AnswerLemmas
-pub mod ArgumentLemmas
-pub mod BookLemmas
-pub mod ItemLemmas
-pub mod LineLemmas
-pub mod MarkLemmas
-pub mod RowLemmas
-pub mod VerbLemmas
-pub mod WordLemmas

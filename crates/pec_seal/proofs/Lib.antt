@@ -1,3 +1,0 @@
-pub mod Printable
-pub mod LineLaws
-pub mod OpeningLaws

@@ -1,4 +1,0 @@
-pub mod Hearing
-pub mod OfNetworks
-pub mod Playing
-pub mod Serving

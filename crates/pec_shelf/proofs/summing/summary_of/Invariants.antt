@@ -1,9 +1,0 @@
-use Rattle.std.proofs.Common.{◌≡◌, drop}
-use Rattle.pec_shelf.specs.Summaries.{nothing_yet}
-use Rattle.pec_shelf.specs.SummariesReading.{with_messages}
-use Rattle.pec_shelf.proofs.summing.summary_of.Given as goal
-
-abbrev pub invariant-loop-number : goal.invariant-loop-number
-invariant-loop-number l =
-    with_messages l.me l.shelf.half l.summary l.number (drop l.number l.outbox.messages)
-    ≡ with_messages l.me l.shelf.half nothing_yet 0 l.outbox.messages

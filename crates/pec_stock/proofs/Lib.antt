@@ -1,9 +1,0 @@
-pub mod Agreeing
-pub mod BeginningLemmas
-pub mod CarryLemmas
-pub mod LookLemmas
-pub mod OpeningLemmas
-pub mod PlaceLemmas
-pub mod RoomLemmas
-pub mod TakingLemmas
-pub mod WorldLemmas

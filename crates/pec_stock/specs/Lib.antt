@@ -1,5 +1,0 @@
-pub mod Entering
-pub mod Opening
-pub mod Stock
-pub mod Stocking
-pub mod Unchanged

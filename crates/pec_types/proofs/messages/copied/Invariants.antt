@@ -1,5 +1,0 @@
-use Rattle.std.proofs.Common.{◌≡◌, take}
-use Rattle.pec_types.proofs.messages.copied.Given as goal
-
-abbrev pub invariant-loop-recipient : goal.invariant-loop-recipient
-invariant-loop-recipient l = l.copies.items ≡ take l.recipient-index l.recipients

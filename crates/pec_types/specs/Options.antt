@@ -1,6 +1,0 @@
--- What may be there, one step after another: written with `do` where this name is imported.
-use Rattle.std.specs.Prelude.{Option, option_and_then}
-
-infixl 10 ◌>>=◌
-abbrev pub ◌>>=◌ : {A B : Type 0} → Option A → (A → Option B) → Option B
-found >>= next = option_and_then next found

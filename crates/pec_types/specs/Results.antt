@@ -1,7 +1,0 @@
--- What may fail, one step after another, the first fault kept: written with `do` where this name is imported.
-use Rattle.std.specs.Prelude.{Result, Ok, Err}
-
-infixl 10 ◌>>=◌
-abbrev pub ◌>>=◌ : {A B E : Type 0} → Result A E → (A → Result B E) → Result B E
-(Ok value) >>= next = next value
-(Err fault) >>= next = Err fault

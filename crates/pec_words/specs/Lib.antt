@@ -1,4 +1,0 @@
-pub mod Cuts
-pub mod NumberSteps
-pub mod Numbers
-pub mod Paths
