@@ -9,11 +9,11 @@ use Rattle.csv.specs.Writing.{default_writer, escaped, fields_text, is_blank, re
 use Rattle.csv.specs.declared.parser.State.TheVariants as st
 use Rattle.csv.proofs.RoundTrip.{read-write}
 use Rattle.pec_types.specs.Bytes.{Bytes}
+use Rattle.pec_types.specs.Moments.{is_within}
 use Rattle.pec_directory.specs.Directory.{Provider}
 use Rattle.pec_records.specs.declared.entries.Entry.{Entry}
 use Rattle.pec_ledger.specs.Steps.{moment_of}
 use Rattle.pec_ledger.specs.Trade.{Trade}
-use Rattle.pec_provider.specs.Summing.{is_within}
 use Rattle.pec_extract.specs.LogRows.{Told, log_rows, row_with, row_within, rows_from, submits, told_by}
 use Rattle.pec_extract.specs.Logs.{all_totals, rows_of_all, totals_of_all}
 use Rattle.pec_extract.specs.Records.{HasFields, Record, header, record_text, records_in, records_text, totals_record}

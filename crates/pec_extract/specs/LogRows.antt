@@ -6,6 +6,7 @@ use Rattle.std.specs.Option.{option_and_then, option_map, option_to_list}
 use Rattle.std.specs.List.{flat_map}
 use Rattle.pec_types.specs.Bytes.{Bytes, Path}
 use Rattle.pec_types.specs.Message.{Id}
+use Rattle.pec_types.specs.Moments.{is_within}
 use Rattle.pec_types.specs.Words.{cause_word, decision_word, id_text, wish_word}
 use Rattle.pec_types.specs.declared.messages.Facts.{Facts}
 use Rattle.pec_types.specs.declared.messages.TheConstants.{MESSAGES}
@@ -19,7 +20,7 @@ use Rattle.pec_ledger.specs.Pairs.{id_of}
 use Rattle.pec_ledger.specs.Steps.{half, moment_of}
 use Rattle.pec_ledger.specs.Trade.{Trade}
 use Rattle.pec_provider.specs.OfTrades.{refused_facts}
-use Rattle.pec_provider.specs.Summing.{Summary, is_within, summary_within}
+use Rattle.pec_provider.specs.Summing.{Summary, summary_within}
 use Rattle.pec_provider.specs.Telling.{facts_taken, own_facts, recipients_taken}
 use Rattle.pec_extract.specs.Records.{Record}
 use Rattle.pec_extract.specs.declared.writing.Totals.{Totals}

@@ -9,7 +9,7 @@ ghost use Rattle.pec_provider.specs.OfTrades.{world_at};
 ghost use Rattle.pec_chronicle.specs.Carrying.{CarriesOn, NothingMay};
 ghost use Rattle.pec_chronicle.specs.Chronicle.{Stands};
 ghost use Rattle.pec_provider.specs.Provider.{RunsIn, desk_of};
-ghost use Rattle.pec_provider.specs.Summing.{IsUpTo, is_within, most_pairs};
+ghost use Rattle.pec_provider.specs.Summing.{IsUpTo, most_pairs};
 ghost use Rattle.pec_provider.specs.Telling.{facts_taken, own_facts, recipients_taken};
 ghost use Rattle.pec_extract.specs.LogRows.{facts_by, log_rows, next_message, original_in, row_with, row_within, submits, told_by, told_with, totals_in, totals_of};
 ghost use Rattle.pec_extract.specs.Logs.{HasGrown, TotalsUpTo};
@@ -32,7 +32,7 @@ use pec_provider::{
 };
 use pec_records::Entry;
 use pec_seal::Sealer;
-use pec_types::{Address, Facts, Moment, MsgId, NoMemory};
+use pec_types::{Address, Facts, Moment, MsgId, NoMemory, is_within};
 use std::alloc::Global;
 
 /// Writes the rows of a provider's log: one for each of its entries whose moment is in the range, both ends of which
@@ -214,13 +214,6 @@ fn write_within<S: Sealer, D: Disk, W: Sink>(
     write_row(
         alloc, house, provider, remembered, number, submitted, entry, out,
     )
-}
-
-/// Whether a moment is of a range, whose ends belong to it.
-fn is_within(from: Moment, upto: Moment, moment: u64) -> bool
-    ensures { result ≡ is_within from upto moment }
-{
-    from.seconds() <= moment && moment <= upto.seconds()
 }
 
 /// Writes the row of an entry, where it has one.

@@ -6,6 +6,7 @@ use Rattle.std.proofs.Math.ListN.{drop_of_length-le}
 use Rattle.std.proofs.lemmas.List.{length-append}
 use Rattle.std.proofs.lemmas.Option.{get_or_from_slice_get, slice_get-map, slice_get_within}
 use Rattle.pec_types.specs.Message.{Id}
+use Rattle.pec_types.specs.Moments.{is_within}
 use Rattle.pec_types.specs.declared.messages.Facts.{Facts}
 use Rattle.pec_types.specs.declared.messages.Recipient.{Recipient}
 use Rattle.pec_ledger.specs.Along.{times}
@@ -15,7 +16,7 @@ use Rattle.pec_ledger.specs.Pairs.{Pair, id_of, pair_of}
 use Rattle.pec_ledger.specs.Trade.{Trade}
 use Rattle.pec_shelf.specs.Seen.{certified_at, certified_by, certified_in, certified_of}
 use Rattle.pec_shelf.specs.Sides.{Kept, certified_of_rows, messages_of}
-use Rattle.pec_shelf.specs.Summaries.{IsUpTo, all_pairs, half_within, is_accepted, is_delivered, is_noticed, is_turned_away, is_unknown, is_within, most_pairs, nothing_yet, pairs_from, pairs_of, summary_of, summary_within, within}
+use Rattle.pec_shelf.specs.Summaries.{IsUpTo, all_pairs, half_within, is_accepted, is_delivered, is_noticed, is_turned_away, is_unknown, most_pairs, nothing_yet, pairs_from, pairs_of, summary_of, summary_within, within}
 use Rattle.pec_shelf.specs.SummariesReading.{kept_within, more_if, with_accepted, with_message, with_messages, with_pair, with_pairs}
 use Rattle.pec_shelf.specs.declared.certified.Certified.{Certified}
 use Rattle.pec_shelf.specs.declared.summing.Summary.{Summary}

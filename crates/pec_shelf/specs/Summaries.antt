@@ -1,9 +1,10 @@
 -- What has become of a provider's own messages, in numbers: `summary_of`, over its accepted messages and their pairs, and
 -- `summary_within`, over those of a range of moments; and the same of all providers of a network, `total_of`. This
 -- project's profile.
-use Rattle.std.specs.Prelude.{ℕ, ◌+◌, ◌≤◌, nat_le, Bool, true, false, ◌&&◌, if◌then◌else◌, List, [], ◌∷◌, ◌++◌, map, Option, None, Some, is_none, is_some}
+use Rattle.std.specs.Prelude.{ℕ, ◌+◌, ◌≤◌, Bool, true, false, ◌&&◌, if◌then◌else◌, List, [], ◌∷◌, ◌++◌, map, Option, None, Some, is_none, is_some}
 use Rattle.std.specs.Option.{option_map}
 use Rattle.pec_types.specs.Message.{Id}
+use Rattle.pec_types.specs.Moments.{is_within}
 use Rattle.pec_types.specs.declared.messages.Decision.{Decision}
 use Rattle.pec_types.specs.declared.messages.Decision.TheVariants.{Placed, Refused}
 use Rattle.pec_types.specs.declared.messages.Recipient.{Recipient}
@@ -81,10 +82,6 @@ summary_of trade provider half = record {
   unknown = times (is_unknown half) (all_pairs trade provider half);
   noticed = times (is_noticed half) (all_pairs trade provider half);
 }
-
--- a moment of this range, whose ends belong to it
-abbrev pub is_within : (from upto : ℕ) → ℕ → Bool
-is_within from upto moment = nat_le from moment && nat_le moment upto
 
 -- a message that was submitted in a range, and any other as one that wasn't accepted
 abbrev pub within : (from upto : ℕ) → Message → Message

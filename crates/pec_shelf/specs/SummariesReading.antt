@@ -2,11 +2,12 @@
 -- follows. It comes to the summary of `Summaries` where the homes that are kept are the trade's.
 use Rattle.std.specs.Prelude.{ℕ, ◌+◌, Bool, List, [], ◌∷◌, None, if◌then◌else◌}
 use Rattle.pec_types.specs.Message.{Id}
+use Rattle.pec_types.specs.Moments.{is_within}
 use Rattle.pec_types.specs.Timetable.{raised}
 use Rattle.pec_ledger.specs.Half.{Half}
 use Rattle.pec_ledger.specs.Pairs.{Pair, id_of, pair_of}
 use Rattle.pec_shelf.specs.Sides.{Kept}
-use Rattle.pec_shelf.specs.Summaries.{is_accepted, is_delivered, is_noticed, is_unknown, is_turned_away, is_within}
+use Rattle.pec_shelf.specs.Summaries.{is_accepted, is_delivered, is_noticed, is_unknown, is_turned_away}
 use Rattle.pec_shelf.specs.declared.certified.Certified.{Certified}
 use Rattle.pec_shelf.specs.declared.summing.Summary.{Summary}
 

@@ -4,14 +4,14 @@ ghost use Rattle.pec_types.specs.declared.messages.TheConstants.{MESSAGES};
 ghost use Rattle.pec_ledger.specs.Pairs.{pair_of};
 ghost use Rattle.pec_ledger.specs.Trade.{Trade};
 ghost use Rattle.pec_shelf.specs.Seen.{IsFor};
-ghost use Rattle.pec_shelf.specs.Summaries.{IsUpTo, decision_on, is_noticed, is_placed, is_refused, is_within, most_pairs, nothing_yet, plus, summary_of, summary_within};
+ghost use Rattle.pec_shelf.specs.Summaries.{IsUpTo, decision_on, is_noticed, is_placed, is_refused, most_pairs, nothing_yet, plus, summary_of, summary_within};
 ghost use Rattle.pec_shelf.specs.SummariesReading.{kept_within, more_if, with_accepted, with_message, with_messages, with_pair, with_pairs};
 
 use crate::certified::Certified;
 use crate::outbox::Outbox;
 use crate::rows::MessageRow;
 use crate::shelf::Shelf;
-use pec_types::{Address, Decision, Moment, MsgId};
+use pec_types::{Address, Decision, Moment, MsgId, is_within};
 
 /// What has become of messages, in numbers: how many were accepted, and how many of their pairs, each a message and a
 /// certified recipient, are known to be placed, are known to be refused, aren't known, and had a notice, in time or
@@ -119,17 +119,10 @@ fn with_message_within(
 ) -> Summary
     ensures { result ≡ with_message shelf.now.half id summary (kept_within from upto row.now) }
 {
-    if !is_within(from, upto, row.moment()) {
+    if !is_within(from, upto, row.moment().seconds()) {
         return summary;
     }
     with_message(shelf, summary, id, row)
-}
-
-/// Whether a moment is of a range, whose ends belong to it.
-fn is_within(from: Moment, upto: Moment, moment: Moment) -> bool
-    ensures { result ≡ is_within from upto moment }
-{
-    from.seconds() <= moment.seconds() && moment.seconds() <= upto.seconds()
 }
 
 /// The summary of all messages on the sender's side of this shelf.

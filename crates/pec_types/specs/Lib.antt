@@ -7,6 +7,7 @@ pub mod Limits
 pub mod LimitsReading
 pub mod Looks
 pub mod Message
+pub mod Moments
 pub mod Options
 pub mod Passed
 pub mod Results

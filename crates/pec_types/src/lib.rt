@@ -35,7 +35,7 @@ pub use mailboxes::{ItemKind, ItemLine, Mark};
 pub use messages::{
     BookLine, Cause, Class, Decision, Facts, MESSAGES, MsgId, Recipient, Refusal, Wish,
 };
-pub use moments::{END_OF_TIME, Moment};
+pub use moments::{END_OF_TIME, Moment, is_within};
 pub use places::Place;
 pub use receipts::Kind;
 pub use scanning::{Stand, lower_addresses_pass};

@@ -1,4 +1,5 @@
 ghost use Rattle.std.specs.Prelude.{◌≡◌, ℕ, ◌<◌, ◌≤◌, ◌↔◌, IsNone, IfSome};
+ghost use Rattle.pec_types.specs.Moments.{is_within};
 ghost use Rattle.pec_types.specs.declared.moments.TheConstants.{END_OF_TIME};
 
 use std::marker::Model;
@@ -42,4 +43,12 @@ impl Moment {
     {
         self.seconds
     }
+}
+
+/// Whether a second since 1970-01-01T00:00:00Z is of the range from one moment to another, whose ends belong to it.
+/// This project's profile.
+pub fn is_within(from: Moment, upto: Moment, second: u64) -> bool
+    ensures { result ≡ is_within from upto second }
+{
+    from.seconds() <= second && second <= upto.seconds()
 }
