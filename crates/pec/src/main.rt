@@ -2,16 +2,14 @@
 #![tactic(auto)]
 
 mod screening;
-mod words;
 
 use pec_doors::{SystemTicks, TcpDoor};
-use pec_files::{FileDepot, Input, Output};
+use pec_files::{FileDepot, Input, Output, words};
 use pec_top::{Status, run_pec};
 use screening::{screens, spares};
 use std::io;
 use std::process::ExitCode;
 use std::time::Duration;
-use words::words;
 
 /// Where connections come in, on this machine alone.
 const PORT: u16 = 8125;

@@ -38,7 +38,7 @@ fn comes(
 }
 
 /// Words that are no form of the program.
-static WRONG_WORDS: [&[&str]; 15] = [
+static WRONG_WORDS: [&[&str]; 18] = [
     &[],
     &[""],
     &["", "run"],
@@ -54,6 +54,9 @@ static WRONG_WORDS: [&[&str]; 15] = [
     &[" resume"],
     &["ru"],
     &["--run"],
+    &["run\u{fffd}"],
+    &["\u{fffd}run"],
+    &["runrunrunrunrunrunrunrunrunrunrunrunrunrunrunrunrunrunrunrunrunrunrunr"],
 ];
 
 /// The tables, by functions without a clause: the proofs of the tests are spared their texts.
@@ -106,9 +109,15 @@ struct Begun {
     status: Status,
 }
 
-static BEGUN: [Begun; 4] = [
+static BEGUN: [Begun; 5] = [
     Begun {
         words: &["resume"],
+        input: b"",
+        output: b"refused no-script\n",
+        status: Status::Refused,
+    },
+    Begun {
+        words: &["run"],
         input: b"",
         output: b"refused no-script\n",
         status: Status::Refused,
