@@ -1,4 +1,5 @@
-ghost use Rattle.std.specs.Prelude.{◌≡◌, IfOk};
+ghost use Rattle.std.specs.Prelude.{◌≡◌, [], ◌∷◌, IfOk};
+ghost use Rattle.hex.specs.Hex.{encode_lower};
 ghost use Rattle.pec_directory.specs.Directory.{providers_of};
 ghost use Rattle.pec_script.specs.Pages.{line_after, rest_after};
 ghost use Rattle.pec_script.specs.Texts.{answer_text, answer_word, answer_words, submitted_text, submitted_words, unfit_words};
@@ -65,15 +66,11 @@ fn add_submitted(
     ensures { IfOk result (λ new. new.text.items ≡ line_after page.text.items (submitted_words (providers_of directory.now) submitted.now)) }
 {
     match submitted {
-        Submitted::Accepted(id) => {
-            let page = page.begin(b"accepted")?.id(alloc, directory, *id)?.end()?;
-            Ok(page)
-        }
-        Submitted::NotAccepted(id, cause) => {
-            let page = page.begin(b"not-accepted")?.id(alloc, directory, *id)?;
-            let page = page.word(cause.word())?.end()?;
-            Ok(page)
-        }
+        Submitted::Accepted(id) => page.begin(b"accepted")?.id(alloc, directory, *id)?.end(),
+        Submitted::NotAccepted(id, cause) => page
+            .begin(b"not-accepted")?
+            .id(alloc, directory, *id)?
+            .last_word(cause.word()),
     }
 }
 
@@ -91,18 +88,9 @@ fn add_answer(alloc: Global, page: Page, answer: &Answer) -> Result<Page, NoMemo
 {
     let page = page.begin(answer_word(answer))?;
     match answer {
-        Answer::Restarted(entries) => {
-            let page = page.number(*entries)?.end()?;
-            Ok(page)
-        }
-        Answer::BadJournal(unfit) => {
-            let page = add_unfit(alloc, page, unfit)?;
-            Ok(page)
-        }
-        _ => {
-            let page = page.end()?;
-            Ok(page)
-        }
+        Answer::Restarted(entries) => page.last_number(*entries),
+        Answer::BadJournal(unfit) => add_unfit(alloc, page, unfit),
+        _ => page.end(),
     }
 }
 
@@ -134,20 +122,23 @@ fn add_unfit(alloc: Global, page: Page, unfit: &Unfit) -> Result<Page, NoMemory>
     ensures { IfOk result (λ new. new.text.items ≡ rest_after page.text.items (unfit_words unfit.now)) }
 {
     match unfit {
-        Unfit::Journal(at) => {
-            let page = page.word(b"journal")?.number(*at)?.end()?;
-            Ok(page)
-        }
+        Unfit::Journal(at) => page.word(b"journal")?.last_number(*at),
         Unfit::Directory(kept, given) => {
-            let kept = hex::encode(alloc, kept.as_slice())?;
-            let given = hex::encode(alloc, given.as_slice())?;
-            let page = page.word(b"directory")?.word(kept.as_bytes())?;
-            let page = page.word(given.as_bytes())?.end()?;
-            Ok(page)
+            let page = page.word(b"directory")?;
+            add_digests(alloc, page, kept.as_slice(), given.as_slice())
         }
-        Unfit::Entry(number) => {
-            let page = page.word(b"entry")?.number(*number)?.end()?;
-            Ok(page)
-        }
+        Unfit::Entry(number) => page.word(b"entry")?.last_number(*number),
     }
+}
+
+/// Adds two digests in hexadecimal, and ends the line.
+fn add_digests(alloc: Global, page: Page, kept: &[u8], given: &[u8]) -> Result<Page, NoMemory>
+    ensures { IfOk result (λ new. new.text.items
+        ≡ rest_after page.text.items (encode_lower kept.now ∷ encode_lower given.now ∷ [])) }
+{
+    let kept = hex::encode(alloc, kept)?;
+    let page = page.word(kept.as_bytes())?;
+    let given = hex::encode(alloc, given)?;
+    let page = page.last_word(given.as_bytes())?;
+    Ok(page)
 }

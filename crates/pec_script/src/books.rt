@@ -57,9 +57,8 @@ fn add_outcome(page: Page, outcome: Option<(Decision, Moment)>) -> Result<Page, 
     ensures { IfOk result (λ new. new.text.items ≡ rest_after page.text.items (outcome_words outcome)) }
 {
     let Some((decision, moment)) = outcome else {
-        let page = page.word(b"open")?.end()?;
-        return Ok(page);
+        return page.last_word(b"open");
     };
-    let page = page.word(decision.word())?.number(moment.seconds())?.end()?;
+    let page = page.word(decision.word())?.last_number(moment.seconds())?;
     Ok(page)
 }

@@ -1,6 +1,6 @@
 ghost use Rattle.std.specs.Prelude.{◌≡◌, [], ◌∷◌, ◌++◌, codes, IfOk};
 ghost use Rattle.std.specs.Fmt.{decimal};
-ghost use Rattle.pec_script.specs.Pages.{line_after};
+ghost use Rattle.pec_script.specs.Pages.{line_after, rest_after};
 
 use pec_types::NoMemory;
 use std::alloc::Global;
@@ -52,6 +52,22 @@ impl Page {
         ensures { IfOk result (λ page. page.text.items ≡ self.text.items ++ codes "\n") }
     {
         let page = self.begin(b"\n")?;
+        Ok(page)
+    }
+
+    /// Adds a space and a last word, and ends the line.
+    pub(crate) fn last_word(self, word: &[u8]) -> Result<Page, NoMemory>
+        ensures { IfOk result (λ page. page.text.items ≡ rest_after self.text.items (word.now ∷ [])) }
+    {
+        let page = self.word(word)?.end()?;
+        Ok(page)
+    }
+
+    /// Adds a space and a last word, which is a number in decimal, and ends the line.
+    pub(crate) fn last_number(self, number: u64) -> Result<Page, NoMemory>
+        ensures { IfOk result (λ page. page.text.items ≡ rest_after self.text.items (decimal number ∷ [])) }
+    {
+        let page = self.number(number)?.end()?;
         Ok(page)
     }
 

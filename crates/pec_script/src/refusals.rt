@@ -71,22 +71,10 @@ fn add_rest(page: Page, fault: ProviderFault) -> Result<Page, NoMemory>
     ensures { IfOk result (λ new. new.text.items ≡ rest_after page.text.items (refusal_rest fault)) }
 {
     match fault {
-        ProviderFault::DiskFault => {
-            let page = page.word(b"disk")?.end()?;
-            Ok(page)
-        }
-        ProviderFault::ClockBack(last) => {
-            let page = page.number(last.seconds())?.end()?;
-            Ok(page)
-        }
-        ProviderFault::Changed(entry) => {
-            let page = page.number(entry)?.end()?;
-            Ok(page)
-        }
-        _ => {
-            let page = page.end()?;
-            Ok(page)
-        }
+        ProviderFault::DiskFault => page.last_word(b"disk"),
+        ProviderFault::ClockBack(last) => page.last_number(last.seconds()),
+        ProviderFault::Changed(entry) => page.last_number(entry),
+        _ => page.end(),
     }
 }
 
@@ -133,13 +121,7 @@ fn add_argument(page: Page, fault: LineFault) -> Result<Page, NoMemory>
         LineFault::BadNumber(number)
         | LineFault::BadAddress(number)
         | LineFault::BadBase64(number)
-        | LineFault::UnknownProvider(number) => {
-            let page = page.number(u64::from(number))?.end()?;
-            Ok(page)
-        }
-        _ => {
-            let page = page.end()?;
-            Ok(page)
-        }
+        | LineFault::UnknownProvider(number) => page.last_number(u64::from(number)),
+        _ => page.end(),
     }
 }

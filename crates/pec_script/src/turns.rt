@@ -1,13 +1,14 @@
-ghost use Rattle.std.specs.Prelude.{◌≡◌, IfOk};
+ghost use Rattle.std.specs.Prelude.{◌≡◌, [], ◌∷◌, IfOk};
 ghost use Rattle.pec_directory.specs.Directory.{providers_of};
 ghost use Rattle.pec_script.specs.Pages.{only, rest_after, text_after, text_for};
-ghost use Rattle.pec_script.specs.Texts.{ended_rows, event_row, event_words, letter_words, sent_rows, turn_rows, turns_text};
+ghost use Rattle.pec_script.specs.Texts.{ended_rows, event_row, event_words, id_of, letter_words, sent_rows, turn_rows, turns_text};
+ghost use Rattle.pec_types.specs.Words.{decision_word};
 
 use crate::naming::name_of;
 use crate::pages::Page;
 use crate::refusals::add_named_fault;
 use pec_directory::Directory;
-use pec_types::{Event, Letter, NoMemory, ProviderFault, Turn};
+use pec_types::{Address, Decision, Event, Letter, MsgId, NoMemory, ProviderFault, Turn};
 use std::alloc::Global;
 
 /// The lines of a round: for each turn what the provider did and the peers to which it put letters, each line behind
@@ -83,8 +84,7 @@ fn add_peer(
     let page = page.begin(name)?.word(b"sent")?;
     let page = page
         .word(name_of(directory, to))?
-        .number(u64::from(frames))?
-        .end()?;
+        .last_number(u64::from(frames))?;
     Ok(page)
 }
 
@@ -108,43 +108,78 @@ fn add_event(
     ensures { IfOk result (λ new. new.text.items ≡ rest_after page.text.items (event_words (providers_of directory.now) event.now)) }
 {
     match event {
-        Event::Took(id) => {
-            let page = page.word(b"took")?.id(alloc, directory, *id)?.end()?;
-            Ok(page)
-        }
+        Event::Took(id) => add_message(alloc, directory, page, b"took", *id),
         Event::Charged(id, by) => {
-            let page = page.word(b"charged")?.id(alloc, directory, *id)?;
-            let page = page.word(name_of(directory, *by))?.end()?;
-            Ok(page)
+            let name = name_of(directory, *by);
+            add_message_and(alloc, directory, page, b"charged", *id, name)
         }
         Event::Learned(id, recipient, decision) => {
-            let page = page.word(b"learned")?.id(alloc, directory, *id)?;
-            let page = page.word(recipient.bytes())?.word(decision.word())?.end()?;
-            Ok(page)
+            add_decision(
+                alloc, directory, page, b"learned", *id, recipient, *decision,
+            )
         }
         Event::Acked(id, recipient) => {
-            let page = page.word(b"acked")?.id(alloc, directory, *id)?;
-            let page = page.word(recipient.bytes())?.end()?;
-            Ok(page)
+            add_message_and(alloc, directory, page, b"acked", *id, recipient.bytes())
         }
-        Event::Repeat(letter) => {
-            let page = add_letter(alloc, directory, page.word(b"repeat")?, letter)?;
-            Ok(page)
-        }
-        Event::Anomaly(accounts) => {
-            let page = page.word(b"anomaly")?.number(u64::from(*accounts))?.end()?;
-            Ok(page)
-        }
-        Event::Dropped => {
-            let page = page.word(b"dropped")?.end()?;
-            Ok(page)
-        }
+        Event::Repeat(letter) => add_letter(alloc, directory, page.word(b"repeat")?, letter),
+        Event::Anomaly(accounts) => page.word(b"anomaly")?.last_number(u64::from(*accounts)),
+        Event::Dropped => page.last_word(b"dropped"),
         Event::Decided(id, recipient, decision) => {
-            let page = page.word(b"decided")?.id(alloc, directory, *id)?;
-            let page = page.word(recipient.bytes())?.word(decision.word())?.end()?;
-            Ok(page)
+            add_decision(
+                alloc, directory, page, b"decided", *id, recipient, *decision,
+            )
         }
     }
+}
+
+/// Adds a word and the name of a message, and ends the line.
+fn add_message(
+    alloc: Global,
+    directory: &Directory,
+    page: Page,
+    word: &[u8],
+    id: MsgId,
+) -> Result<Page, NoMemory>
+    ensures { IfOk result (λ new. new.text.items
+        ≡ rest_after page.text.items (word.now ∷ id_of (providers_of directory.now) id ∷ [])) }
+{
+    let page = page.word(word)?.id(alloc, directory, id)?.end()?;
+    Ok(page)
+}
+
+/// Adds a word, the name of a message and a last word, and ends the line.
+fn add_message_and(
+    alloc: Global,
+    directory: &Directory,
+    page: Page,
+    word: &[u8],
+    id: MsgId,
+    last: &[u8],
+) -> Result<Page, NoMemory>
+    ensures { IfOk result (λ new. new.text.items
+        ≡ rest_after page.text.items (word.now ∷ id_of (providers_of directory.now) id ∷ last.now ∷ [])) }
+{
+    let page = page.word(word)?.id(alloc, directory, id)?.last_word(last)?;
+    Ok(page)
+}
+
+/// Adds a word, the name of a message, a recipient and what was decided, and ends the line.
+fn add_decision(
+    alloc: Global,
+    directory: &Directory,
+    page: Page,
+    word: &[u8],
+    id: MsgId,
+    recipient: &Address,
+    decision: Decision,
+) -> Result<Page, NoMemory>
+    ensures { IfOk result (λ new. new.text.items
+        ≡ rest_after page.text.items
+        (word.now ∷ id_of (providers_of directory.now) id ∷ recipient.now ∷ decision_word decision ∷ [])) }
+{
+    let page = page.word(word)?.id(alloc, directory, id)?;
+    let page = page.word(recipient.bytes())?.last_word(decision.word())?;
+    Ok(page)
 }
 
 /// Adds the words of a letter that had arrived before, and ends the line.
@@ -157,23 +192,13 @@ fn add_letter(
     ensures { IfOk result (λ new. new.text.items ≡ rest_after page.text.items (letter_words (providers_of directory.now) letter.now)) }
 {
     match letter {
-        Letter::Envelope { id, .. } => {
-            let page = page.word(b"envelope")?.id(alloc, directory, *id)?.end()?;
-            Ok(page)
-        }
-        Letter::Charge { id, .. } => {
-            let page = page.word(b"charge")?.id(alloc, directory, *id)?.end()?;
-            Ok(page)
-        }
+        Letter::Envelope { id, .. } => add_message(alloc, directory, page, b"envelope", *id),
+        Letter::Charge { id, .. } => add_message(alloc, directory, page, b"charge", *id),
         Letter::Outcome { id, recipient } => {
-            let page = page.word(b"outcome")?.id(alloc, directory, *id)?;
-            let page = page.word(recipient.bytes())?.end()?;
-            Ok(page)
+            add_message_and(alloc, directory, page, b"outcome", *id, recipient.bytes())
         }
         Letter::Ack { id, recipient } => {
-            let page = page.word(b"ack")?.id(alloc, directory, *id)?;
-            let page = page.word(recipient.bytes())?.end()?;
-            Ok(page)
+            add_message_and(alloc, directory, page, b"ack", *id, recipient.bytes())
         }
     }
 }

@@ -49,8 +49,7 @@ fn push_message(
         provider: me,
         number: ranked.place(),
     };
-    push_pairs(shelf, lines, id, row.moment(), row.certified())?;
-    Ok(())
+    push_pairs(shelf, lines, id, row.moment(), row.certified())
 }
 
 /// Adds the lines of a message's certified recipients.

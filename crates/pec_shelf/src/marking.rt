@@ -156,8 +156,7 @@ fn push_mark(
     if due == Due::Nothing {
         return Ok(());
     }
-    push_due(shelf, ready, now, id, sender, &recipient.address, due)?;
-    Ok(())
+    push_due(shelf, ready, now, id, sender, &recipient.address, due)
 }
 
 /// Adds what is due, with its notice.

@@ -117,8 +117,7 @@ pub(crate) fn learned(
     let Some(account) = shelf.submitter(id.number) else {
         unreachable!();
     };
-    let ready = learn(shelf, account, moment, id, recipient, decision, decided)?;
-    Ok(ready)
+    learn(shelf, account, moment, id, recipient, decision, decided)
 }
 
 /// What an outcome adds.

@@ -468,8 +468,7 @@ impl PostedRow {
     pub(crate) fn line(&self, alloc: Global) -> Result<ItemLine, NoMemory>
         ensures { IfOk result (λ line. line ≡ item_line self.now.item) }
     {
-        let line = line_of(alloc, &self.item)?;
-        Ok(line)
+        line_of(alloc, &self.item)
     }
 }
 

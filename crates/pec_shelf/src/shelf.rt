@@ -269,8 +269,7 @@ impl Shelf {
     pub fn items(&self, account: &Address) -> Result<Vec<ItemLine>, NoMemory>
         ensures { IfOk result (λ lines. lines.items ≡ mailbox_lines self.now.half account.now) }
     {
-        let lines = self.boxes.lines(self.alloc, account)?;
-        Ok(lines)
+        self.boxes.lines(self.alloc, account)
     }
 
     /// The lines of an account's archive, in the order in which the items were moved there.
@@ -278,8 +277,7 @@ impl Shelf {
     pub fn vault(&self, account: &Address) -> Result<Vec<ItemLine>, NoMemory>
         ensures { IfOk result (λ lines. lines.items ≡ archive_lines self.now.half account.now) }
     {
-        let lines = self.boxes.vault_lines(self.alloc, account)?;
-        Ok(lines)
+        self.boxes.vault_lines(self.alloc, account)
     }
 
     /// Where the cursors stand behind an entry, if it is a clock call whose moment isn't before the greatest one.
