@@ -1,5 +1,6 @@
 //! Bodies that have no parts.
 use crate::parts::head_with;
+use crate::rows::holds;
 use crate::texts::joined;
 use pec_bodies::{BodyFault, Parts};
 use pec_heads::{Head, HeadFault};
@@ -47,7 +48,7 @@ static FAULTS: [(&str, BodyFault); 9] = [
 #[test]
 fn the_first_fault_of_a_body_is_answered(rt: HostRuntime) {
     for (body, fault) in &FAULTS {
-        assert!(rt; has_fault(rt.alloc(), TYPE, body, Some(*fault)), "{body}");
+        holds(&rt, has_fault(rt.alloc(), TYPE, body, Some(*fault)), body);
     }
 }
 
@@ -62,11 +63,12 @@ static TYPES: [(&str, Option<BodyFault>); 5] = [
 #[test]
 fn a_head_of_another_type_or_with_no_boundary_gives_no_parts(rt: HostRuntime) {
     for (value, fault) in &TYPES {
-        assert!(rt;
-            has_fault(rt.alloc(), value.as_bytes(), "--b\n\n\n--b--", *fault),
-            "{value}"
-        );
+        holds(&rt, has_fault_by(rt.alloc(), value, *fault), value);
     }
+}
+
+fn has_fault_by(alloc: Global, value: &str, wanted: Option<BodyFault>) -> bool {
+    has_fault(alloc, value.as_bytes(), "--b\n\n\n--b--", wanted)
 }
 
 #[test]

@@ -1,5 +1,6 @@
 //! Brief forms of messages.
-use crate::texts::joined;
+use crate::rows::holds;
+use crate::texts::{joined, says};
 use pec_brief::brief;
 use std::alloc::Global;
 
@@ -20,7 +21,7 @@ fn a_message_of_a_usual_client_keeps_all_but_its_two_attachments(rt: HostRuntime
 /// Whether this is the brief form of the message.
 fn is_brief(alloc: Global, message: &[u8], wanted: &[u8]) -> bool {
     match brief(alloc, message) {
-        Ok(short) => short.as_slice() == wanted,
+        Ok(short) => says(short, wanted),
         Err(_) => false,
     }
 }
@@ -81,7 +82,7 @@ static ATTACHMENTS: [(&str, &str, &str); 11] = [
 #[test]
 fn an_attachment_is_told_by_its_head_and_named_by_it(rt: HostRuntime) {
     for (part, name, digest) in &ATTACHMENTS {
-        assert!(rt; is_replaced(rt.alloc(), part, name, digest), "{part}");
+        holds(&rt, is_replaced(rt.alloc(), part, name, digest), part);
     }
 }
 
@@ -134,15 +135,17 @@ static MESSAGES: [&str; 5] = [
 #[test]
 fn everything_else_stays(rt: HostRuntime) {
     for part in &PARTS {
-        assert!(rt;
+        holds(
+            &rt,
             becomes(rt.alloc(), part.as_bytes(), part.as_bytes()),
-            "{part}"
+            part,
         );
     }
     for message in &MESSAGES {
-        assert!(rt;
+        holds(
+            &rt,
             is_brief(rt.alloc(), message.as_bytes(), message.as_bytes()),
-            "{message}"
+            message,
         );
     }
 }

@@ -1,5 +1,6 @@
 //! Certification texts, dates and zones.
-use crate::texts::{is_text, put};
+use crate::rows::{holds, holds_at};
+use crate::texts::{are_these, is_text, put};
 use pec_cert::*;
 use pec_types::{Moment, Text};
 use std::alloc::Global;
@@ -109,9 +110,10 @@ static STAMPS: [(&str, u64, i32); 18] = [
 #[test]
 fn a_zone_stamps_with_whole_minutes(rt: HostRuntime) {
     for (rule, seconds, minutes) in &STAMPS {
-        assert!(rt;
+        holds(
+            &rt,
             is_stamp(stamped(rt.alloc(), rule, *seconds), *seconds, *minutes),
-            "{rule}"
+            rule,
         );
     }
     assert!(rt; is_no_rule(rt.alloc(), b"nonsense!"));
@@ -186,15 +188,17 @@ static DAY_LINES: [(&str, u64, &str); 5] = [
 #[test]
 fn a_stamp_is_printed_in_heads_and_texts(rt: HostRuntime) {
     for (rule, seconds, date) in &HEADER_DATES {
-        assert!(rt;
+        holds(
+            &rt,
             is_date(rt.alloc(), stamped(rt.alloc(), rule, *seconds), date),
-            "{date}"
+            date,
         );
     }
     for (rule, seconds, line) in &DAY_LINES {
-        assert!(rt;
+        holds(
+            &rt,
             is_line(rt.alloc(), stamped(rt.alloc(), rule, *seconds), line),
-            "{line}"
+            line,
         );
     }
 }
@@ -248,7 +252,7 @@ static NO_DATES: [&str; 17] = [
 #[test]
 fn other_spellings_are_no_dates(rt: HostRuntime) {
     for text in &NO_DATES {
-        assert!(rt; read_header_date(text.as_bytes()).is_none(), "{text}");
+        holds(&rt, read_header_date(text.as_bytes()).is_none(), text);
     }
 }
 
@@ -285,7 +289,7 @@ fn is_full(alloc: Global) -> bool {
 fn says_all(cert: &CertData) -> bool {
     cert.kind == CertKind::DelayNotice
         && cert.error == CertError::Other
-        && cert.reply.bytes() == b"<&>\"".as_slice()
+        && are_these(cert.reply.bytes(), b"<&>\"")
         && is_stamp(Some(cert.stamp), 7199, -1559)
         && cert.stamp.shown().zone.hours == 25
         && cert.received.as_slice().len() == 2
@@ -350,7 +354,7 @@ static VALUES: [Row; 16] = [
 #[test]
 fn a_text_of_another_shape_has_its_first_fault(rt: HostRuntime) {
     for row in &SHAPES {
-        assert!(rt; has_fault(rt.alloc(), row), "{} {}", row.0, row.2);
+        holds_at(&rt, has_fault(rt.alloc(), row), row.0 as u64, row.2);
     }
     assert!(rt; fault_of(rt.alloc(), b"") == Some(CertFault::Syntax(0)));
 }
@@ -358,7 +362,7 @@ fn a_text_of_another_shape_has_its_first_fault(rt: HostRuntime) {
 #[test]
 fn a_wrong_value_has_its_place(rt: HostRuntime) {
     for row in &VALUES {
-        assert!(rt; has_fault(rt.alloc(), row), "{} {}", row.0, row.2);
+        holds_at(&rt, has_fault(rt.alloc(), row), row.0 as u64, row.2);
     }
     assert!(rt; has_the_farthest_zone(rt.alloc()));
 }

@@ -1,5 +1,6 @@
 //! Composed bodies.
-use crate::texts::{put, put_number};
+use crate::rows::{holds, holds_at};
+use crate::texts::{put, put_number, says};
 use pec_bodies::{compose, composed_type};
 use pec_types::Text8;
 use std::alloc::Global;
@@ -15,7 +16,7 @@ static BODIES: [(&[&str], &str); 2] = [
 #[test]
 fn each_part_stands_behind_a_delimiter_and_before_a_line_end(rt: HostRuntime) {
     for (parts, wanted) in &BODIES {
-        assert!(rt; are_composed(rt.alloc(), parts, wanted), "{wanted}");
+        holds(&rt, are_composed(rt.alloc(), parts, wanted), wanted);
     }
 }
 
@@ -23,7 +24,7 @@ fn each_part_stands_behind_a_delimiter_and_before_a_line_end(rt: HostRuntime) {
 fn are_composed(alloc: Global, parts: &[&str], wanted: &str) -> bool {
     let all = texts_of(alloc, parts);
     match compose(alloc, &all) {
-        Ok((number, body)) => number == 0 && body.as_slice() == wanted.as_bytes(),
+        Ok((number, body)) => number == 0 && says(body, wanted.as_bytes()),
         Err(_) => false,
     }
 }
@@ -74,33 +75,33 @@ static NUMBERS: [(&[&str], u64); 16] = [
 #[test]
 fn the_boundary_has_the_least_number_that_no_line_takes(rt: HostRuntime) {
     for (parts, wanted) in &NUMBERS {
-        assert!(rt; number_of(rt.alloc(), parts) == Some(*wanted), "{wanted}");
+        holds_at(&rt, have_number(rt.alloc(), parts, *wanted), *wanted, "");
     }
 }
 
-fn number_of(alloc: Global, parts: &[&str]) -> Option<u64> {
+fn have_number(alloc: Global, parts: &[&str], wanted: u64) -> bool {
     let all = texts_of(alloc, parts);
-    number_with(alloc, &all)
+    take_number(alloc, &all, wanted)
 }
 
-/// The number of the boundary of these parts.
-fn number_with(alloc: Global, all: &[Text8]) -> Option<u64> {
+/// Whether this is the number of the boundary of these parts.
+fn take_number(alloc: Global, all: &[Text8], wanted: u64) -> bool {
     match compose(alloc, all) {
-        Ok((number, _)) => Some(number),
-        Err(_) => None,
+        Ok((number, _)) => number == wanted,
+        Err(_) => false,
     }
 }
 
 /// Lines that take the numbers below 20,000, one each.
 #[test]
 fn many_numbers_may_be_taken(rt: HostRuntime) {
-    assert!(rt; number_behind(rt.alloc(), 20_000) == Some(20_000));
+    assert!(rt; are_passed_over(rt.alloc(), 20_000));
 }
 
-/// The number of the boundary of one part with a line for each number below this one.
-fn number_behind(alloc: Global, most: u64) -> Option<u64> {
+/// Whether this is the number of the boundary of one part with a line for each number below it.
+fn are_passed_over(alloc: Global, most: u64) -> bool {
     let part = Text8::of(lines_below(alloc, most));
-    number_with(alloc, &[part])
+    take_number(alloc, &[part], most)
 }
 
 fn lines_below(alloc: Global, most: u64) -> Vec<u8> {
@@ -125,13 +126,13 @@ static TYPES: [(u64, &str); 2] = [
 #[test]
 fn the_type_of_a_composed_body_names_its_boundary(rt: HostRuntime) {
     for (number, wanted) in &TYPES {
-        assert!(rt; is_type(rt.alloc(), *number, wanted), "{number}");
+        holds_at(&rt, is_type(rt.alloc(), *number, wanted), *number, "");
     }
 }
 
 fn is_type(alloc: Global, number: u64, wanted: &str) -> bool {
     match composed_type(alloc, number) {
-        Ok(value) => value.as_slice() == wanted.as_bytes(),
+        Ok(value) => says(value, wanted.as_bytes()),
         Err(_) => false,
     }
 }

@@ -1,4 +1,6 @@
 //! Frames: their faults, their paths, and how they are made.
+use crate::rows::holds_of;
+use crate::texts::are_these;
 use pec_frames::{FRAME_LIMIT, FrameFault, FrameMade, frame_of, read_frame};
 use pec_types::{Address, Frame};
 use std::alloc::Global;
@@ -22,12 +24,12 @@ static FAULTS: [(&[u8], FrameFault); 9] = [
 #[test]
 fn faults_stand_at_their_places(rt: HostRuntime) {
     for (frame, fault) in &FAULTS {
-        assert!(rt; fault_of(rt.alloc(), frame) == Some(*fault), "{frame:?}");
+        holds_of(&rt, is_refused(rt.alloc(), frame, *fault), frame);
     }
 }
 
-fn fault_of(alloc: Global, frame: &[u8]) -> Option<FrameFault> {
-    read_frame(alloc, frame).err()
+fn is_refused(alloc: Global, frame: &[u8], fault: FrameFault) -> bool {
+    read_frame(alloc, frame).err() == Some(fault)
 }
 
 /// The frame of docs/formats.md: its path has one address, and its message begins at 23. Capitals are read as small
@@ -44,7 +46,7 @@ static PATHS: [(&[u8], &[u8], usize); 2] = [
 #[test]
 fn a_path_is_read_in_lower_case(rt: HostRuntime) {
     for (frame, address, place) in &PATHS {
-        assert!(rt; has_path(rt.alloc(), frame, address, *place), "{frame:?}");
+        holds_of(&rt, has_path(rt.alloc(), frame, address, *place), frame);
     }
 }
 
@@ -58,7 +60,7 @@ fn has_path(alloc: Global, frame: &[u8], address: &[u8], place: usize) -> bool {
 
 fn is_one(path: &[Address], wanted: &[u8]) -> bool {
     match path {
-        [address] => address.bytes() == wanted,
+        [address] => are_these(address.bytes(), wanted),
         _ => false,
     }
 }
@@ -86,8 +88,10 @@ fn is_made_and_read(alloc: Global) -> bool {
 }
 
 fn is_frame_to(alloc: Global, frame: &Frame, path: &[Address]) -> bool {
-    frame.bytes() == b"Per: bob@beta.example,eva@gamma.example\r\nciao".as_slice()
-        && is_read_to(alloc, frame.bytes(), path)
+    are_these(
+        frame.bytes(),
+        b"Per: bob@beta.example,eva@gamma.example\r\nciao",
+    ) && is_read_to(alloc, frame.bytes(), path)
 }
 
 fn is_read_to(alloc: Global, frame: &[u8], path: &[Address]) -> bool {

@@ -1,5 +1,6 @@
 //! Heads: where they end, what is found in them, and how they are written.
-use crate::texts::{is_value, joined, put};
+use crate::rows::{holds, holds_at};
+use crate::texts::{are_these, is_value, joined, put, says};
 use pec_heads::{Head, HeadFault, ListFault, end_head, put_addresses, put_field};
 use pec_types::{Address, AddressFault, Class, Facts, Recipient, Text, Wish};
 use std::alloc::Global;
@@ -28,18 +29,15 @@ static ENDS: [(&str, Result<usize, HeadFault>); 18] = [
 #[test]
 fn a_head_ends_at_its_empty_line_or_has_the_fault_of_its_first_wrong_line(rt: HostRuntime) {
     for (text, wanted) in &ENDS {
-        assert!(rt;
-            place_behind(rt.alloc(), text.as_bytes()) == *wanted,
-            "{text}"
-        );
+        holds(&rt, is_ended(rt.alloc(), text.as_bytes(), *wanted), text);
     }
 }
 
-/// The place behind the head, or the fault.
-fn place_behind(alloc: Global, text: &[u8]) -> Result<usize, HeadFault> {
+/// Whether this is the place behind the head, or its fault.
+fn is_ended(alloc: Global, text: &[u8], wanted: Result<usize, HeadFault>) -> bool {
     match Head::read(alloc, text) {
-        Ok((_, place)) => Ok(place),
-        Err(fault) => Err(fault),
+        Ok((_, place)) => wanted == Ok(place),
+        Err(fault) => wanted == Err(fault),
     }
 }
 
@@ -54,14 +52,19 @@ static LENGTHS: [(usize, &str, Result<usize, HeadFault>); 5] = [
 #[test]
 fn a_line_has_at_most_998_bytes_without_its_end(rt: HostRuntime) {
     for (bytes, end, wanted) in &LENGTHS {
-        assert!(rt; ends_so(rt.alloc(), *bytes, end, *wanted), "{bytes}");
+        holds_at(
+            &rt,
+            ends_so(rt.alloc(), *bytes, end, *wanted),
+            *bytes as u64,
+            end,
+        );
     }
 }
 
 /// Whether the head of a line of so many bytes, with this end, ends there or has this fault.
 fn ends_so(alloc: Global, bytes: usize, end: &str, wanted: Result<usize, HeadFault>) -> bool {
     let text = long_line(alloc, bytes, end);
-    place_behind(alloc, &text) == wanted
+    is_ended(alloc, &text, wanted)
 }
 
 /// A line of so many bytes, with this end, and an empty one.
@@ -131,7 +134,7 @@ static LISTS: [(&str, &str); 7] = [
 #[test]
 fn a_list_is_its_entries_outside_quotes(rt: HostRuntime) {
     for (value, wanted) in &LISTS {
-        assert!(rt; lists(rt.alloc(), value, wanted), "{value}");
+        holds(&rt, lists(rt.alloc(), value, wanted), value);
     }
 }
 
@@ -145,7 +148,7 @@ fn lists(alloc: Global, value: &str, wanted: &str) -> bool {
 
 fn are_addresses(alloc: Global, head: &Head, wanted: &str) -> bool {
     match head.addresses(alloc, b"to") {
-        Ok(addresses) => listed(alloc, &addresses).as_slice() == wanted.as_bytes(),
+        Ok(addresses) => says(listed(alloc, &addresses), wanted.as_bytes()),
         Err(_) => false,
     }
 }
@@ -197,14 +200,14 @@ static WRONG_LISTS: [(&str, ListFault); 13] = [
 #[test]
 fn a_wrong_list_has_the_fault_of_its_first_wrong_entry(rt: HostRuntime) {
     for (value, fault) in &WRONG_LISTS {
-        assert!(rt; list_fault(rt.alloc(), value) == Some(*fault), "{value}");
+        holds(&rt, has_list_fault(rt.alloc(), value, *fault), value);
     }
 }
 
-fn list_fault(alloc: Global, value: &str) -> Option<ListFault> {
+fn has_list_fault(alloc: Global, value: &str, wanted: ListFault) -> bool {
     match head_to(alloc, value) {
-        Some(head) => head.addresses(alloc, b"to").err(),
-        None => None,
+        Some(head) => head.addresses(alloc, b"to").err() == Some(wanted),
+        None => false,
     }
 }
 
@@ -226,23 +229,23 @@ fn are_full_facts(alloc: Global) -> bool {
 }
 
 fn says_all(facts: &Facts) -> bool {
-    facts.sender.bytes() == b"a@b".as_slice()
+    are_these(facts.sender.bytes(), b"a@b")
         && facts.wish == Wish::Brief
         && is_said(&facts.subject, b"? x")
         && is_said(&facts.reference, b"<1>")
-        && facts.reply.bytes() == b"?".as_slice()
+        && are_these(facts.reply.bytes(), b"?")
 }
 
 fn is_said(found: &Option<Text>, wanted: &[u8]) -> bool {
     match found {
-        Some(text) => text.bytes() == wanted,
+        Some(text) => are_these(text.bytes(), wanted),
         None => false,
     }
 }
 
 /// Whether these are the recipients, each with a plus where it is primary and a space otherwise.
 fn has_recipients(alloc: Global, facts: &Facts, wanted: &[u8]) -> bool {
-    shown(alloc, facts.recipients.as_slice()).as_slice() == wanted
+    says(shown(alloc, facts.recipients.as_slice()), wanted)
 }
 
 fn shown(alloc: Global, recipients: &[Recipient]) -> Vec<u8> {
@@ -286,7 +289,7 @@ fn are_bare_facts(alloc: Global) -> bool {
             facts.wish == Wish::Full
                 && facts.subject.is_none()
                 && facts.reference.is_none()
-                && facts.reply.bytes() == b"a@b".as_slice()
+                && are_these(facts.reply.bytes(), b"a@b")
         }
         None => false,
     }
@@ -304,7 +307,7 @@ static NO_FACTS: [(&str, &str); 6] = [
 #[test]
 fn a_head_without_one_sender_or_with_a_wrong_list_has_no_facts(rt: HostRuntime) {
     for (text, reason) in &NO_FACTS {
-        assert!(rt; has_no_facts(rt.alloc(), text.as_bytes()), "{reason}");
+        holds(&rt, has_no_facts(rt.alloc(), text.as_bytes()), reason);
     }
 }
 
@@ -354,7 +357,7 @@ fn is_written(alloc: Global, wanted: &[u8]) -> bool {
         address(alloc, b"Anna@alfa.example"),
         address(alloc, b"bob@beta.example"),
     ) {
-        (Some(first), Some(second)) => written(alloc, &first, &second).as_slice() == wanted,
+        (Some(first), Some(second)) => says(written(alloc, &first, &second), wanted),
         _ => false,
     }
 }

@@ -27,6 +27,8 @@ mod parts;
 #[cfg(test)]
 mod records;
 #[cfg(test)]
+mod rows;
+#[cfg(test)]
 mod seals;
 #[cfg(test)]
 mod shown;

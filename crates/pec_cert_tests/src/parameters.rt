@@ -1,4 +1,5 @@
 //! Parameters of a value.
+use crate::rows::holds;
 use crate::texts::is_value;
 use pec_bodies::parameter;
 
@@ -24,7 +25,7 @@ static PIECES: [(&str, Option<&str>); 16] = [
 #[test]
 fn a_parameter_is_the_first_piece_of_its_name(rt: HostRuntime) {
     for (value, wanted) in &PIECES {
-        assert!(rt; is_piece(value, *wanted), "{value}");
+        holds(&rt, is_piece(value, *wanted), value);
     }
 }
 

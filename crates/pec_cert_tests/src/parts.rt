@@ -1,6 +1,7 @@
 //! Bodies that have parts.
 use crate::heads::head_of;
-use crate::texts::{is_value, joined, put, put_number};
+use crate::rows::holds;
+use crate::texts::{are_these, is_value, joined, put, put_number, says};
 use pec_bodies::{Part, Parts};
 use pec_heads::Head;
 use std::alloc::Global;
@@ -39,9 +40,10 @@ static BODIES: [(&str, &str); 8] = [
 #[test]
 fn a_part_stands_between_delimiters_without_the_line_end_before_the_second(rt: HostRuntime) {
     for (body, wanted) in &BODIES {
-        assert!(rt;
+        holds(
+            &rt,
             has_parts(rt.alloc(), body.as_bytes(), wanted.as_bytes()),
-            "{body}"
+            body,
         );
     }
 }
@@ -55,7 +57,7 @@ fn has_parts(alloc: Global, body: &[u8], wanted: &[u8]) -> bool {
 
 fn are_read(alloc: Global, head: &Head, body: &[u8], wanted: &[u8]) -> bool {
     match Parts::read(alloc, head, body) {
-        Ok(parts) => shown(alloc, &parts).as_slice() == wanted,
+        Ok(parts) => says(shown(alloc, &parts), wanted),
         Err(_) => false,
     }
 }
@@ -139,7 +141,7 @@ fn are_parts(parts: &Parts<'_>, rows: &[(&str, Option<&str>)]) -> bool {
 /// Whether the part has this text, and stands at its place.
 fn is_body(part: Option<Part<'_>>, text: &str) -> bool {
     match part {
-        Some(part) => part.body == text.as_bytes() && stands_at(part.start, part.whole),
+        Some(part) => are_these(part.body, text.as_bytes()) && stands_at(part.start, part.whole),
         None => false,
     }
 }

@@ -1,7 +1,8 @@
 //! Entries and their bytes, which were written out by hand.
 use crate::entries::encoded;
+use crate::rows::{holds, holds_at};
 use crate::shown::shown;
-use crate::texts::{is_text, put};
+use crate::texts::{are_these, is_text, put, says};
 use pec_records::{Entry, EntryFault, decode};
 use pec_types::Address;
 use std::alloc::Global;
@@ -64,20 +65,25 @@ fn entries() -> &'static [(&'static str, &'static str)] {
 #[test]
 fn each_kind_of_entry_is_its_bytes(rt: HostRuntime) {
     for (tag, (digits, said)) in entries().iter().enumerate() {
-        assert!(rt; is_its_bytes(rt.alloc(), tag, digits, said), "{tag}");
+        holds_at(
+            &rt,
+            is_its_bytes(rt.alloc(), tag, digits, said),
+            tag as u64,
+            said,
+        );
     }
 }
 
 /// Whether the entry of a tag has these bytes, and they are read as what it says.
 fn is_its_bytes(alloc: Global, tag: usize, digits: &str, said: &str) -> bool {
     let bytes = bytes_of(alloc, digits);
-    is_text(encoded(alloc, tag), &bytes) && says(alloc, &bytes, said)
+    is_text(encoded(alloc, tag), &bytes) && is_read_as(alloc, &bytes, said)
 }
 
 /// Whether this is what the entry of these bytes says.
-fn says(alloc: Global, bytes: &[u8], said: &str) -> bool {
+fn is_read_as(alloc: Global, bytes: &[u8], said: &str) -> bool {
     match decode(alloc, bytes) {
-        Ok(entry) => shown(alloc, &entry).as_slice() == said.as_bytes(),
+        Ok(entry) => says(shown(alloc, &entry), said.as_bytes()),
         Err(_) => false,
     }
 }
@@ -89,7 +95,7 @@ fn fault_of(alloc: Global, bytes: &[u8]) -> Option<EntryFault> {
 #[test]
 fn what_is_cut_off_ends_too_early(rt: HostRuntime) {
     for (digits, said) in entries() {
-        assert!(rt; ends_too_early(rt.alloc(), digits), "{said}");
+        holds(&rt, ends_too_early(rt.alloc(), digits), said);
     }
 }
 
@@ -160,7 +166,7 @@ static FAULTS: [(&str, usize); 36] = [
 #[test]
 fn faults_stand_at_the_first_wrong_byte(rt: HostRuntime) {
     for (digits, place) in &FAULTS {
-        assert!(rt; has_fault_at(rt.alloc(), digits, *place), "{digits}");
+        holds(&rt, has_fault_at(rt.alloc(), digits, *place), digits);
     }
 }
 
@@ -188,7 +194,7 @@ fn is_long(entry: &Entry) -> bool {
             accounts,
             message,
             ..
-        } => are_long(accounts.as_slice()) && message.bytes() == b"!".as_slice(),
+        } => are_long(accounts.as_slice()) && are_these(message.bytes(), b"!"),
         _ => false,
     }
 }

@@ -2,6 +2,7 @@
 ghost use Rattle.std.specs.Prelude.{◌≡◌, IfSome, [], ◌∷◌, codes};
 ghost use Rattle.pec_seal.specs.Hmac.{hmac_seals, IsKey};
 
+use crate::rows::{holds, holds_of};
 use crate::texts::is_text;
 use pec_seal::{HmacSealer, SealFault, Sealer, Text8, opened, seal};
 use pec_types::Text;
@@ -45,7 +46,7 @@ static TAGS: [(&[u8], &[u8], &str); 5] = [
 #[test]
 fn a_tag_is_that_of_the_standard(rt: HostRuntime) {
     for (key, text, tag) in &TAGS {
-        assert!(rt; is_tag(rt.alloc(), key, text, tag), "{tag}");
+        holds(&rt, is_tag(rt.alloc(), key, text, tag), tag);
     }
 }
 
@@ -180,7 +181,7 @@ static FAULTS: [(&[u8], SealFault); 9] = [
 #[test]
 fn what_is_no_seal_has_the_fault_that_comes_first(rt: HostRuntime) {
     for (text, fault) in &FAULTS {
-        assert!(rt; has_fault(rt.alloc(), text, *fault), "{text:?}");
+        holds_of(&rt, has_fault(rt.alloc(), text, *fault), text);
     }
 }
 
@@ -213,7 +214,7 @@ static SEALED: [(&[u8], &[u8]); 7] = [
 #[test]
 fn what_was_sealed_is_opened_whatever_name_and_text(rt: HostRuntime) {
     for (name, bytes) in &SEALED {
-        assert!(rt; is_opened_again(rt.alloc(), name, bytes), "{name:?}");
+        holds_of(&rt, is_opened_again(rt.alloc(), name, bytes), name);
     }
 }
 

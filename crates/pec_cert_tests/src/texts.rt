@@ -22,10 +22,20 @@ pub(crate) fn put_number(alloc: Global, text: &mut Vec<u8>, number: u64) {
     }
 }
 
+/// Whether bytes are these.
+pub(crate) fn are_these(bytes: &[u8], wanted: &[u8]) -> bool {
+    *bytes == *wanted
+}
+
+/// Whether a text that was made is this one.
+pub(crate) fn says(text: Vec<u8>, wanted: &[u8]) -> bool {
+    are_these(text.as_slice(), wanted)
+}
+
 /// Whether there is a text, and it is this one.
 pub(crate) fn is_text(found: Option<Vec<u8>>, wanted: &[u8]) -> bool {
     match found {
-        Some(text) => text.as_slice() == wanted,
+        Some(text) => says(text, wanted),
         None => false,
     }
 }
@@ -33,7 +43,7 @@ pub(crate) fn is_text(found: Option<Vec<u8>>, wanted: &[u8]) -> bool {
 /// Whether there are bytes, and they are these.
 pub(crate) fn is_value(found: Option<&[u8]>, wanted: &[u8]) -> bool {
     match found {
-        Some(value) => value == wanted,
+        Some(value) => are_these(value, wanted),
         None => false,
     }
 }

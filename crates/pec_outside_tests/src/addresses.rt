@@ -1,6 +1,6 @@
 //! Addresses: which texts are none, and what one keeps.
 use crate::rows::holds;
-use crate::texts::joined;
+use crate::texts::{are_these, joined};
 use pec_types::{Address, AddressFault};
 use std::alloc::Global;
 
@@ -55,7 +55,7 @@ fn capitals_become_small_letters(rt: HostRuntime) {
 /// Whether the text is read as this address at alfa.example, and so is its copy.
 fn is_read_as(alloc: Global, text: &[u8], wanted: &[u8]) -> bool {
     match Address::read(alloc, text) {
-        Ok(read) => read.bytes() == wanted && is_copied_as(alloc, &read, wanted),
+        Ok(read) => are_these(read.bytes(), wanted) && is_copied_as(alloc, &read, wanted),
         Err(_) => false,
     }
 }
@@ -68,7 +68,7 @@ fn is_copied_as(alloc: Global, read: &Address, wanted: &[u8]) -> bool {
 }
 
 fn is_at_alfa(address: &Address, wanted: &[u8]) -> bool {
-    address.bytes() == wanted && address.domain() == b"alfa.example".as_slice()
+    are_these(address.bytes(), wanted) && are_these(address.domain(), b"alfa.example")
 }
 
 // What stands behind 252 letters, and the fault of that text.

@@ -1,7 +1,8 @@
 //! Entries that are made, appended, refused and opened again, on disks that fail at one of their calls.
 ghost use Rattle.pec_records.specs.Entry.{IsShort, IsWithinLimits};
 
-use crate::texts::calls;
+use crate::rows::holds_at;
+use crate::texts::{are_these, calls};
 use pec_chronicle::{AppendFault, Chronicle, CreateFault, OpenFault, Opening};
 use pec_outside::{Disk, MemDepot, MemDisk};
 use pec_records::Entry;
@@ -60,7 +61,7 @@ static CUTS: [Cut; 5] = [
 #[test]
 fn an_entry_is_there_or_not_after_each_crash(rt: HostRuntime) {
     for cut in &CUTS {
-        assert!(rt; has_entries_after(rt.alloc(), cut), "call {}", cut.call);
+        holds_at(&rt, has_entries_after(rt.alloc(), cut), cut.call, "");
     }
 }
 
@@ -94,7 +95,7 @@ fn are_left(alloc: Global, chronicle: Chronicle<MemDisk>, kept: u64, entries: u6
 #[test]
 fn a_fault_of_the_disk_makes_no_journal(rt: HostRuntime) {
     for call in 0..7 {
-        assert!(rt; fails_to_make(rt.alloc(), call), "call {call}");
+        holds_at(&rt, fails_to_make(rt.alloc(), call), call, "");
     }
     assert!(rt; is_made(rt.alloc(), 7));
 }
@@ -115,7 +116,7 @@ fn is_made(alloc: Global, call: u64) -> bool {
 #[test]
 fn a_fault_of_the_disk_opens_no_entries(rt: HostRuntime) {
     for call in 11..19 {
-        assert!(rt; fails_to_open(rt.alloc(), call), "call {call}");
+        holds_at(&rt, fails_to_open(rt.alloc(), call), call, "");
     }
     assert!(rt; are_opened(rt.alloc(), 19));
 }
@@ -171,13 +172,21 @@ fn left_down(fault: OpenFault, chronicle: &Chronicle<MemDisk>) -> Option<OpenFau
 /// How many entries are read, up to a fault, and no more than nine.
 fn all_read(alloc: Global, opening: &mut Opening<MemDisk>) -> (u64, Option<OpenFault>) {
     for entries in 0..9 {
-        match opening.next(alloc) {
-            Ok(Some(_)) => (),
-            Ok(None) => return (entries, None),
+        match has_next(alloc, opening) {
+            Ok(true) => (),
+            Ok(false) => return (entries, None),
             Err(fault) => return (entries, Some(fault)),
         }
     }
     (9, None)
+}
+
+/// Whether one more entry is read; or the fault.
+fn has_next(alloc: Global, opening: &mut Opening<MemDisk>) -> Result<bool, OpenFault> {
+    match opening.next(alloc) {
+        Ok(entry) => Ok(entry.is_some()),
+        Err(fault) => Err(fault),
+    }
 }
 
 /// Bytes over which no entries are opened.
@@ -220,7 +229,12 @@ static FILES: [File; 5] = [
 #[test]
 fn bytes_that_are_no_entries_are_refused(rt: HostRuntime) {
     for file in &FILES {
-        assert!(rt; is_refused(rt.alloc(), file), "{:?}", file.bytes);
+        holds_at(
+            &rt,
+            is_refused(rt.alloc(), file),
+            file.bytes.len() as u64,
+            "bytes",
+        );
     }
 }
 
@@ -263,19 +277,43 @@ fn reads_ciao(alloc: Global, chronicle: &mut Chronicle<MemDisk>) -> bool {
     }
     let place = Place { at: 55, length: 36 };
     match chronicle.read(alloc, place) {
-        Ok(Entry::Accepted { message, .. }) => message.bytes() == b"ciao".as_slice(),
+        Ok(entry) => {
+            let read = OwnedEntry { entry };
+            is_ciao(&read.entry)
+        }
+        Err(_) => false,
+    }
+}
+
+/// Whether an entry is the acceptance of this message.
+fn is_ciao(entry: &Entry) -> bool {
+    match entry {
+        Entry::Accepted { message, .. } => are_these(message.bytes(), b"ciao"),
         _ => false,
+    }
+}
+
+/// An entry that a test owns.
+struct OwnedEntry {
+    entry: Entry,
+}
+
+impl Drop for OwnedEntry {
+    fn drop(self) {
+        let OwnedEntry { entry: _ } = self;
     }
 }
 
 /// Entries on an empty disk that fails at this call, with a Start; or the fault.
 fn made(alloc: Global, call: u64) -> Result<Chronicle<MemDisk>, CreateFault> {
     let disk = MemDisk::new(alloc, calls(alloc, &[call]));
-    let start = Entry::Start {
-        provider: 0,
-        digest: [7; 32],
+    let start = OwnedEntry {
+        entry: Entry::Start {
+            provider: 0,
+            digest: [7; 32],
+        },
     };
-    match Chronicle::create(alloc, disk, &start) {
+    match Chronicle::create(alloc, disk, &start.entry) {
         Ok(chronicle) => Ok(chronicle),
         Err((fault, _)) => Err(fault),
     }
@@ -288,22 +326,36 @@ fn has_appended<D: Disk>(
     fault: Option<AppendFault>,
 ) -> bool {
     match Moment::new(5) {
-        Some(moment) => is_appended(alloc, chronicle, &Entry::Ticked { moment }, fault),
+        Some(moment) => {
+            let ticked = OwnedEntry {
+                entry: Entry::Ticked { moment },
+            };
+            is_appended(alloc, chronicle, &ticked.entry, fault)
+        }
         None => false,
     }
 }
 
 fn has_appended_acceptance<D: Disk>(alloc: Global, chronicle: &mut Chronicle<D>) -> bool {
-    match (Moment::new(5), Address::read(alloc, b"anna@alfa.example")) {
-        (Some(moment), Ok(sender)) => {
-            let entry = Entry::Accepted {
-                moment,
-                sender,
-                message: ciao(alloc),
+    match Address::read(alloc, b"anna@alfa.example") {
+        Ok(sender) => has_accepted_of(alloc, chronicle, sender),
+        Err(_) => false,
+    }
+}
+
+fn has_accepted_of<D: Disk>(alloc: Global, chronicle: &mut Chronicle<D>, sender: Address) -> bool {
+    match Moment::new(5) {
+        Some(moment) => {
+            let accepted = OwnedEntry {
+                entry: Entry::Accepted {
+                    moment,
+                    sender,
+                    message: ciao(alloc),
+                },
             };
-            is_appended(alloc, chronicle, &entry, None)
+            is_appended(alloc, chronicle, &accepted.entry, None)
         }
-        _ => false,
+        None => false,
     }
 }
 

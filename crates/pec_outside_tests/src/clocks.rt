@@ -1,6 +1,6 @@
 //! Clocks in memory: their moments, and calls that fail.
 use crate::rows::holds;
-use crate::texts::{calls, put, put_number};
+use crate::texts::{calls, put, put_number, says};
 use pec_outside::{Failed, MemTicks, Ticks};
 use pec_types::Moment;
 use std::alloc::Global;
@@ -30,7 +30,7 @@ fn a_clock_answers_its_moments_and_then_the_last_again(rt: HostRuntime) {
 
 fn goes_so(alloc: Global, row: &Row) -> bool {
     match clock_of(alloc, row.0, row.1) {
-        Some(mut ticks) => said(alloc, &mut ticks).as_slice() == row.2.as_bytes(),
+        Some(mut ticks) => says(said(alloc, &mut ticks), row.2.as_bytes()),
         None => false,
     }
 }

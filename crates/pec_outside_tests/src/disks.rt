@@ -1,7 +1,7 @@
 //! Disks and depots in memory: what is read of what was written, calls that fail, and crashes.
 use crate::rows::holds_at;
 use crate::texts::calls;
-use pec_outside::{Depot, Disk, Failed, MemDepot, MemDisk};
+use pec_outside::{Depot, Disk, MemDepot, MemDisk};
 use std::alloc::Global;
 
 /// Where a piece is written, the piece, and what the disk holds then.
@@ -46,19 +46,14 @@ fn takes_all<D: Disk>(disk: &mut D, rows: &[Written]) -> bool {
 }
 
 fn takes<D: Disk>(disk: &mut D, row: &Written) -> bool {
-    disk.write_at(row.0, row.1) == Ok(())
-        && holds(disk, row.2)
-        && disk.size() == Ok(row.2.len() as u64)
+    disk.write_at(row.0, row.1).is_ok() && holds(disk, row.2) && has_size(disk, row.2.len() as u64)
 }
 
 /// Whether these bytes are what the disk holds, up to 40.
 fn holds<D: Disk>(disk: &mut D, wanted: &[u8]) -> bool {
     let mut room = [0; 40];
     match disk.read_at(0, &mut room) {
-        Ok(count) => match room.get(..count) {
-            Some(bytes) => bytes == wanted,
-            None => false,
-        },
+        Ok(count) => count == wanted.len() && room.starts_with(wanted),
         Err(_) => false,
     }
 }
@@ -82,13 +77,19 @@ fn each_call_of_a_disk_can_fail(rt: HostRuntime) {
 
 fn fails_once(alloc: Global, number: u64) -> bool {
     let mut disk = MemDisk::new(alloc, calls(alloc, &[number]));
-    fails_at(&mut disk, number) && disk.calls() == 4 && has_size(&mut disk, number)
+    fails_at(&mut disk, number) && disk.calls() == 4 && holds_unless_failed(&mut disk, number)
 }
 
 /// Whether the disk holds the three bytes, unless their write failed.
-fn has_size<D: Disk>(disk: &mut D, number: u64) -> bool {
-    let size = if number == 0 { 0 } else { 3 };
-    disk.size() == Ok(size)
+fn holds_unless_failed<D: Disk>(disk: &mut D, number: u64) -> bool {
+    has_size(disk, if number == 0 { 0 } else { 3 })
+}
+
+fn has_size<D: Disk>(disk: &mut D, wanted: u64) -> bool {
+    match disk.size() {
+        Ok(size) => size == wanted,
+        Err(_) => false,
+    }
 }
 
 fn fails_at<D: Disk>(disk: &mut D, number: u64) -> bool {
@@ -145,11 +146,11 @@ fn is_left_by_crashes<D: Disk + Drop, P: Depot<D = D>>(depot: &mut P, wanted: &[
 }
 
 fn is_written<D: Disk>(disk: &mut D) -> bool {
-    disk.write_at(0, b"abcdef") == Ok(())
-        && disk.sync() == Ok(())
-        && disk.write_at(1, b"XY") == Ok(())
-        && disk.write_at(4, b"!") == Err(Failed)
-        && disk.write_at(6, b"Z") == Ok(())
+    disk.write_at(0, b"abcdef").is_ok()
+        && disk.sync().is_ok()
+        && disk.write_at(1, b"XY").is_ok()
+        && disk.write_at(4, b"!").is_err()
+        && disk.write_at(6, b"Z").is_ok()
 }
 
 #[test]
@@ -166,7 +167,7 @@ fn gives_what_was_kept(alloc: Global) -> bool {
 fn keeps_a_written_disk<D: Disk + Drop, P: Depot<D = D>>(depot: &mut P) -> bool {
     match depot.disk(15) {
         Ok(mut disk) => {
-            let is_out_once = disk.write_at(0, b"fifteen") == Ok(())
+            let is_out_once = disk.write_at(0, b"fifteen").is_ok()
                 && depot.disk(15).is_err()
                 && has_an_empty_disk(depot);
             depot.keep(15, disk);
@@ -179,7 +180,7 @@ fn keeps_a_written_disk<D: Disk + Drop, P: Depot<D = D>>(depot: &mut P) -> bool 
 /// Whether another provider's disk is another.
 fn has_an_empty_disk<D: Disk + Drop, P: Depot<D = D>>(depot: &mut P) -> bool {
     match depot.disk(0) {
-        Ok(mut other) => other.size() == Ok(0),
+        Ok(mut other) => has_size(&mut other, 0),
         Err(_) => false,
     }
 }

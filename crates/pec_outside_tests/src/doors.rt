@@ -1,6 +1,6 @@
 //! Doors in memory: connections that come in, those that fail, and the replies that stay.
 use crate::rows::holds_at;
-use crate::texts::{calls, joined, put};
+use crate::texts::{calls, joined, put, says};
 use pec_outside::{Door, Failed, MemDoor, Sink, Source, write_all};
 use std::alloc::Global;
 
@@ -96,8 +96,7 @@ fn a_door_gives_its_requests_and_keeps_the_replies(rt: HostRuntime) {
 
 fn goes_so(alloc: Global, row: &Row) -> bool {
     let mut door = door_of(alloc, row.accept, row.broken);
-    said_of(alloc, &mut door).as_slice() == row.said.as_bytes()
-        && has_replies(alloc, &door, row.replies)
+    says(said_of(alloc, &mut door), row.said.as_bytes()) && has_replies(alloc, &door, row.replies)
 }
 
 /// What four connections say.
@@ -110,7 +109,7 @@ fn said_of<R: Door>(alloc: Global, door: &mut R) -> Vec<u8> {
 }
 
 fn has_replies(alloc: Global, door: &MemDoor, wanted: &str) -> bool {
-    replies_of(alloc, door).as_slice() == wanted.as_bytes()
+    says(replies_of(alloc, door), wanted.as_bytes())
 }
 
 fn door_of(alloc: Global, accept: u64, broken: (usize, u64)) -> MemDoor {
@@ -161,9 +160,7 @@ fn talk<C: Source + Sink>(connection: &mut C, said: &mut Vec<u8>) -> Result<(), 
         if count == 0 {
             break;
         }
-        if said.extend_from_slice(&room[..count]).is_err() {
-            return Err(Failed);
-        }
+        put(said, &room[..count]);
     }
     write_all(connection, b"o")?;
     write_all(connection, b"k")

@@ -1,5 +1,5 @@
 //! Texts, moments and lists.
-use crate::texts::joined;
+use crate::texts::{are_these, joined};
 use pec_types::{Items, Moment, Text, Text8, TextFault};
 use std::alloc::Global;
 
@@ -25,7 +25,7 @@ fn keeps_text(alloc: Global, bytes: &[u8]) -> bool {
 
 fn is_copied(alloc: Global, text: &Text, bytes: &[u8]) -> bool {
     match text.copy(alloc) {
-        Ok(copy) => copy.bytes() == bytes,
+        Ok(copy) => are_these(copy.bytes(), bytes),
         Err(_) => false,
     }
 }
@@ -37,7 +37,7 @@ fn refuses_text(alloc: Global, bytes: &[u8], fault: TextFault) -> bool {
 fn keeps_bytes(alloc: Global, bytes: &[u8]) -> bool {
     let owned = Text8::of(joined(alloc, &[bytes]));
     match owned.copy(alloc) {
-        Ok(copy) => copy.bytes() == bytes,
+        Ok(copy) => are_these(copy.bytes(), bytes),
         Err(_) => false,
     }
 }
@@ -51,7 +51,7 @@ fn has_a_last_moment() -> bool {
 
 fn keeps_list(alloc: Global) -> bool {
     match vec![in alloc; 3u8, 4u8] {
-        Ok(items) => Items::of(items).as_slice() == [3, 4].as_slice(),
+        Ok(items) => are_these(Items::of(items).as_slice(), &[3, 4]),
         Err(_) => false,
     }
 }

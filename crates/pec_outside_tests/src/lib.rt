@@ -5,6 +5,8 @@
 #[cfg(test)]
 mod addresses;
 #[cfg(test)]
+mod arguments;
+#[cfg(test)]
 mod chronicles;
 #[cfg(test)]
 mod clocks;

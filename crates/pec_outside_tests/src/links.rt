@@ -1,6 +1,7 @@
 //! Links: the frames that wait, and what befalls them.
 ghost use Rattle.pec_link.specs.Ends.{ArePair};
 
+use crate::texts::are_these;
 use pec_link::{Link, LinkFault, Putter, Taker, new_link, waiting};
 use pec_types::{Frame, Text8};
 use std::alloc::Global;
@@ -35,14 +36,18 @@ fn is_put(alloc: Global, link: &mut Link, byte: u8) -> bool {
 
 fn is_full(alloc: Global, link: &mut Link) -> bool {
     comes_back(alloc, link)
-        && link.repeat(alloc, 0) == Err(LinkFault::Full)
-        && link.repeat(alloc, 64) == Err(LinkFault::NoFrame)
+        && is_fault(link.repeat(alloc, 0), LinkFault::Full)
+        && is_fault(link.repeat(alloc, 64), LinkFault::NoFrame)
+}
+
+fn is_fault(answer: Result<(), LinkFault>, wanted: LinkFault) -> bool {
+    answer == Err(wanted)
 }
 
 fn comes_back(alloc: Global, link: &mut Link) -> bool {
     match link.put(frame_of(alloc, 64)) {
         Ok(()) => false,
-        Err(back) => back.bytes() == b"@".as_slice(),
+        Err(back) => are_these(back.bytes(), b"@"),
     }
 }
 
@@ -64,7 +69,7 @@ fn drains_from(link: &mut Link, first: u8) -> bool {
 /// Whether the next frame is that of this byte. It waits no more.
 fn is_taken(link: &mut Link, byte: u8) -> bool {
     match link.take() {
-        Some(frame) => frame.bytes() == [byte].as_slice(),
+        Some(frame) => are_these(frame.bytes(), &[byte]),
         None => false,
     }
 }
@@ -80,7 +85,7 @@ fn changes_at_places(alloc: Global) -> bool {
             are_put(alloc, &mut link, b"abcd")
                 && is_changed(alloc, &mut link)
                 && are_taken(&mut link, b"adca")
-                && link.swap(0) == Err(LinkFault::NoFrame)
+                && is_fault(link.swap(0), LinkFault::NoFrame)
         }
         Err(_) => false,
     }
@@ -96,11 +101,11 @@ fn are_put(alloc: Global, link: &mut Link, bytes: &[u8]) -> bool {
 }
 
 fn is_changed(alloc: Global, link: &mut Link) -> bool {
-    link.lose(1) == Ok(())
-        && link.swap(1) == Ok(())
-        && link.repeat(alloc, 0) == Ok(())
-        && link.lose(4) == Err(LinkFault::NoFrame)
-        && link.swap(3) == Err(LinkFault::NoFrame)
+    link.lose(1).is_ok()
+        && link.swap(1).is_ok()
+        && link.repeat(alloc, 0).is_ok()
+        && is_fault(link.lose(4), LinkFault::NoFrame)
+        && is_fault(link.swap(3), LinkFault::NoFrame)
 }
 
 /// Takes the frames of these bytes, and none behind them.
@@ -129,10 +134,10 @@ fn turns_when_full(alloc: Global) -> bool {
 }
 
 fn is_turned(alloc: Global, link: &mut Link) -> bool {
-    link.lose(0) == Ok(())
-        && link.repeat(alloc, 0) == Ok(())
-        && link.swap(62) == Ok(())
-        && link.lose(62) == Ok(())
+    link.lose(0).is_ok()
+        && link.repeat(alloc, 0).is_ok()
+        && link.swap(62).is_ok()
+        && link.lose(62).is_ok()
 }
 
 #[test]

@@ -1,6 +1,6 @@
 //! Sources and sinks in memory: pieces of any length, and calls that fail.
 use crate::rows::holds_at;
-use crate::texts::{calls, joined};
+use crate::texts::{are_these, calls, joined};
 use pec_outside::{Failed, MemSink, MemSource, Sink, Source, write_all};
 use std::alloc::Global;
 
@@ -26,7 +26,7 @@ fn is_copied(alloc: Global, piece: usize) -> bool {
 
 /// Whether a copy gives the rest of the text.
 fn copies_all(input: &mut MemSource, out: &mut MemSink) -> bool {
-    copy(input, out) == Ok(()) && out.bytes() == TEXT
+    copy(input, out).is_ok() && are_these(out.bytes(), TEXT)
 }
 
 // A read that fails loses nothing: the second copy goes on where the first one stopped.
@@ -45,7 +45,7 @@ fn fails_at_read(alloc: Global, number: u64) -> bool {
 
 /// Whether a copy fails behind so many pieces of three bytes.
 fn stops_behind(input: &mut MemSource, out: &mut MemSink, pieces: u64) -> bool {
-    copy(input, out) == Err(Failed)
+    copy(input, out).is_err()
         && out.bytes().len() as u64 == pieces.saturating_mul(3)
         && TEXT.starts_with(out.bytes())
 }
@@ -67,7 +67,7 @@ fn fails_at_write(alloc: Global, number: u64) -> bool {
 /// Whether the text is there once its rest is written.
 fn is_completed(out: &mut MemSink) -> bool {
     match TEXT.get(out.bytes().len()..) {
-        Some(rest) => write_all(out, rest) == Ok(()) && out.bytes() == TEXT,
+        Some(rest) => write_all(out, rest).is_ok() && are_these(out.bytes(), TEXT),
         None => false,
     }
 }

@@ -23,6 +23,16 @@ pub(crate) fn put_number(alloc: Global, text: &mut Vec<u8>, number: u64) {
     }
 }
 
+/// Whether bytes are these.
+pub(crate) fn are_these(bytes: &[u8], wanted: &[u8]) -> bool {
+    *bytes == *wanted
+}
+
+/// Whether a text that was made is this one.
+pub(crate) fn says(text: Vec<u8>, wanted: &[u8]) -> bool {
+    are_these(text.as_slice(), wanted)
+}
+
 /// The numbers of calls that fail.
 pub(crate) fn calls(alloc: Global, failing: &[u64]) -> Vec<u64> {
     let mut calls = Vec::new(alloc);

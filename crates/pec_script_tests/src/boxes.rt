@@ -10,18 +10,48 @@ use std::sync::atomic::{AtomicU64, Ordering};
 
 type Verdict = Option<(u32, u32)>;
 
+type AnyBox = Box<dyn Screen>;
+
 /// The screens of two boxes with these patterns each.
 fn screens_of(alloc: Global, first: [&[u8]; 2], second: [&[u8]; 2]) -> Option<Screens> {
-    let first = box_of(alloc, first[0], first[1])?;
-    let second = box_of(alloc, second[0], second[1])?;
-    let boxes = vec![in alloc; first, second].ok()?;
-    Some(Screens::new(boxes))
+    pair_of(
+        alloc,
+        box_of(alloc, first[0], first[1]),
+        box_of(alloc, second[0], second[1]),
+    )
 }
 
-fn box_of(alloc: Global, first: &[u8], second: &[u8]) -> Option<Box<dyn Screen>> {
-    let screen = screen_of(alloc, first, second).ok()?;
-    let boxed: Box<dyn Screen> = Box::new(alloc, screen).ok()?;
-    Some(boxed)
+/// The screens of two boxes; none where one of them isn't there.
+pub fn pair_of(alloc: Global, first: Option<AnyBox>, second: Option<AnyBox>) -> Option<Screens> {
+    match (first, second) {
+        (Some(first), Some(second)) => match vec![in alloc; first, second] {
+            Ok(boxes) => Some(Screens::new(boxes)),
+            Err(_) => None,
+        },
+        _ => None,
+    }
+}
+
+/// A box of two patterns.
+pub fn box_of(alloc: Global, first: &[u8], second: &[u8]) -> Option<AnyBox> {
+    match screen_of(alloc, first, second) {
+        Some(screen) => match Box::new(alloc, screen) {
+            Ok(boxed) => Some(boxed),
+            Err(_) => None,
+        },
+        None => None,
+    }
+}
+
+/// A box that counts outside how often it looks.
+pub fn counter(alloc: Global, looks: &Arc<AtomicU64, Global>) -> Option<AnyBox> {
+    match Arc::try_clone(looks) {
+        Ok(looks) => match Box::new(alloc, Counting { looks, seen: 0 }) {
+            Ok(boxed) => Some(boxed),
+            Err(_) => None,
+        },
+        Err(_) => None,
+    }
 }
 
 static VERDICTS: &[(&str, Verdict)] = &[
@@ -43,14 +73,19 @@ fn the_verdict_is_of_the_first_box_that_finds(rt: HostRuntime) {
 /// Whether a row's verdict is that of two boxes.
 fn is_verdict(alloc: Global, row: &(&str, Verdict)) -> bool {
     match screens_of(alloc, [b"c", b"a"], [b"a", b"b"]) {
-        Some(mut screens) => screens.judge(row.0.as_bytes()) == row.1,
+        Some(mut screens) => judged(&mut screens, row.0.as_bytes()) == row.1,
         None => false,
     }
 }
 
 fn says_nothing_without_boxes(alloc: Global) -> bool {
     let mut none = Screens::new(Vec::new(alloc));
-    none.judge(b"a").is_none()
+    judged(&mut none, b"a").is_none()
+}
+
+/// What screens say, without what is promised of it: the tests compare it.
+fn judged(screens: &mut Screens, message: &[u8]) -> Verdict {
+    screens.judge(message)
 }
 
 #[test]
@@ -69,17 +104,13 @@ fn looks_once(alloc: Global) -> bool {
 }
 
 fn counted_screens(alloc: Global, looks: &Arc<AtomicU64, Global>) -> Option<Screens> {
-    let first = box_of(alloc, b"a", b"b")?;
-    let looks = Arc::try_clone(looks).ok()?;
-    let second: Box<dyn Screen> = Box::new(alloc, Counting { looks, seen: 0 }).ok()?;
-    let boxes = vec![in alloc; first, second].ok()?;
-    Some(Screens::new(boxes))
+    pair_of(alloc, box_of(alloc, b"a", b"b"), counter(alloc, looks))
 }
 
 fn are_all_asked(screens: &mut Screens, looks: &AtomicU64) -> bool {
-    screens.judge(b"a") == Some((0, 0))
+    judged(screens, b"a") == Some((0, 0))
         && looks.load(Ordering::SeqCst) == 1
-        && screens.judge(b"c").is_none()
+        && judged(screens, b"c").is_none()
         && looks.load(Ordering::SeqCst) == 2
 }
 
@@ -96,7 +127,7 @@ static PLACES: &[Place] = &[
 #[test]
 fn a_box_takes_the_place_of_one_that_is_no_longer_asked(rt: HostRuntime) {
     for row in PLACES {
-        holds_at(&rt, is_taken(rt.alloc(), row), row.0 as u64, "");
+        holds_at(&rt, is_taken(rt.alloc(), row), row.0 as u64);
     }
 }
 
@@ -111,18 +142,23 @@ fn is_taken(alloc: Global, row: &Place) -> bool {
 /// Puts a new box into the place. Whether it is taken where the place is one of two, and comes back elsewhere.
 fn takes(alloc: Global, screens: &mut Screens, place: usize) -> bool {
     match box_of(alloc, b"m", b"n") {
-        Some(next) => match screens.replace(place, next) {
-            Ok(()) => place < 2,
-            Err((mut back, fault)) => {
-                2 <= place && fault == ReplaceFault::NoSuchPlace && back.look(b"n") == Some(1)
-            }
-        },
+        Some(next) => takes_box(screens, place, next),
         None => false,
     }
 }
 
+fn takes_box(screens: &mut Screens, place: usize, next: AnyBox) -> bool {
+    match screens.replace(place, next) {
+        Ok(()) => place < 2,
+        Err((mut back, fault)) => {
+            let found = back.look(b"n");
+            2 <= place && fault == ReplaceFault::NoSuchPlace && found == Some(1)
+        }
+    }
+}
+
 fn judge(screens: &mut Screens, wanted: &Place) -> bool {
-    screens.judge(b"n") == wanted.1
-        && screens.judge(b"a") == wanted.2
-        && screens.judge(b"b") == wanted.3
+    judged(screens, b"n") == wanted.1
+        && judged(screens, b"a") == wanted.2
+        && judged(screens, b"b") == wanted.3
 }

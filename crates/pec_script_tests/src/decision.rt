@@ -41,7 +41,7 @@ static ROOMS: &[Row] = &[
 #[test]
 fn what_is_decided_goes_by_account_virus_and_room(rt: HostRuntime) {
     for row in ROOMS {
-        holds_at(&rt, is_decided(row), row.1, "items");
+        holds_at(&rt, is_decided(row), row.1);
     }
 }
 

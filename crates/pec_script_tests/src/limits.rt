@@ -60,7 +60,7 @@ static TIMES: &[Row] = &[
 #[test]
 fn what_is_due_goes_by_the_time_table(rt: HostRuntime) {
     for row in TIMES {
-        holds_at(&rt, is_due(row), u64::from(row.0), "seconds");
+        holds_at(&rt, is_due(row), u64::from(row.0));
     }
 }
 

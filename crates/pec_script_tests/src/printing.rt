@@ -11,8 +11,8 @@ use pec_script::{
     refused_text, submitted_text, turns_text, vault_text,
 };
 use pec_types::{
-    Cause, Class, Decision, Due, ItemKind, ItemLine, Moment, MsgId, ProviderFault, Refusal,
-    Submitted,
+    Cause, Class, Decision, Due, Event, ItemKind, ItemLine, Moment, MsgId, NoMemory, ProviderFault,
+    Refusal, Submitted, Turn,
 };
 use std::alloc::Global;
 use std::slice::from_ref;
@@ -109,19 +109,30 @@ fn is_printed(alloc: Global, directory: &Directory, printed: Printed, wanted: &[
 fn text_of(alloc: Global, directory: &Directory, printed: Printed) -> Option<Vec<u8>> {
     match printed {
         Printed::Book => book(alloc, directory),
-        Printed::Mailbox(kind) => items_text(alloc, directory, &items(alloc, kind)).ok(),
-        Printed::Vault(kind) => vault_text(alloc, directory, &items(alloc, kind)).ok(),
-        Printed::NoVault => vault_text(alloc, directory, &[]).ok(),
+        Printed::Mailbox(kind) => some(items_text(alloc, directory, &items(alloc, kind))),
+        Printed::Vault(kind) => some(vault_text(alloc, directory, &items(alloc, kind))),
+        Printed::NoVault => some(vault_text(alloc, directory, &[])),
         Printed::Marks => marks(alloc, directory),
-        Printed::NoMark => marks_text(alloc, directory, &[]).ok(),
-        Printed::Event(number) => round_of(alloc, directory, number),
-        Printed::Turn(frames, ended) => round_ending(alloc, directory, frames, ended),
-        Printed::Refusal(fault) => fault_text(alloc, directory, &fault_of(fault)).ok(),
+        Printed::NoMark => some(marks_text(alloc, directory, &[])),
+        Printed::Event(number) => round_of(alloc, directory, event(alloc, number)),
+        Printed::Turn(frames, ended) => {
+            let turn = turn_sending(alloc, frames, fault_in(ended));
+            round_text(alloc, directory, turn)
+        }
+        Printed::Refusal(fault) => some(fault_text(alloc, directory, &fault_of(fault))),
         Printed::ClockBack(seconds) => clock_back(alloc, directory, seconds),
-        Printed::Answer(answer) => answer_text(alloc, &answer).ok(),
-        Printed::Fault(line, fault) => refused_text(alloc, line, fault).ok(),
-        Printed::Item => item_text(alloc, b"Salve").ok(),
-        Printed::Submitted(cause) => submitted_text(alloc, directory, &submitted(cause)).ok(),
+        Printed::Answer(answer) => some(answer_text(alloc, &answer)),
+        Printed::Fault(line, fault) => some(refused_text(alloc, line, fault)),
+        Printed::Item => some(item_text(alloc, b"Salve")),
+        Printed::Submitted(cause) => some(submitted_text(alloc, directory, &submitted(cause))),
+    }
+}
+
+/// A text, where there was memory for it.
+pub fn some(text: Result<Vec<u8>, NoMemory>) -> Option<Vec<u8>> {
+    match text {
+        Ok(text) => Some(text),
+        Err(_) => None,
     }
 }
 
@@ -160,7 +171,7 @@ fn book(alloc: Global, directory: &Directory) -> Option<Vec<u8>> {
     );
     add(&mut lines, decided_line(alloc, 1, Class::Copy, virus));
     add(&mut lines, open_line(alloc, 0, Class::Primary));
-    book_text(alloc, directory, &lines).ok()
+    some(book_text(alloc, directory, &lines))
 }
 
 /// Adds a line. Where memory is wanting it isn't there, and the text isn't what has to come.
@@ -185,23 +196,16 @@ fn marks(alloc: Global, directory: &Directory) -> Option<Vec<u8>> {
     for due in DUES {
         add(&mut marks, mark(alloc, *due));
     }
-    marks_text(alloc, directory, &marks).ok()
+    some(marks_text(alloc, directory, &marks))
 }
 
-fn round_of(alloc: Global, directory: &Directory, number: u32) -> Option<Vec<u8>> {
-    let event = event(alloc, number)?;
-    let turn = turn_with(alloc, event)?;
-    turns_text(alloc, directory, from_ref(&turn)).ok()
+/// The round of a turn with this event alone, if there is one.
+pub fn round_of(alloc: Global, directory: &Directory, event: Option<Event>) -> Option<Vec<u8>> {
+    round_text(alloc, directory, turn_with(alloc, event?))
 }
 
-fn round_ending(
-    alloc: Global,
-    directory: &Directory,
-    frames: u32,
-    ended: Option<Fault>,
-) -> Option<Vec<u8>> {
-    let turn = turn_sending(alloc, frames, fault_in(ended))?;
-    turns_text(alloc, directory, from_ref(&turn)).ok()
+fn round_text(alloc: Global, directory: &Directory, turn: Turn) -> Option<Vec<u8>> {
+    some(turns_text(alloc, directory, from_ref(&turn)))
 }
 
 fn fault_in(ended: Option<Fault>) -> Option<ProviderFault> {
@@ -213,5 +217,5 @@ fn fault_in(ended: Option<Fault>) -> Option<ProviderFault> {
 
 fn clock_back(alloc: Global, directory: &Directory, seconds: u64) -> Option<Vec<u8>> {
     let last = Moment::new(seconds)?;
-    fault_text(alloc, directory, &ProviderFault::ClockBack(last)).ok()
+    some(fault_text(alloc, directory, &ProviderFault::ClockBack(last)))
 }

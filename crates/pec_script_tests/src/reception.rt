@@ -180,7 +180,6 @@ fn every_combination_is_received_by_the_rows(rt: HostRuntime) {
             &rt,
             is_received_by_rows(rt.alloc(), number),
             u64::from(number),
-            "",
         );
     }
 }
@@ -297,7 +296,7 @@ static NEAR_MISSES: &[Row] = &[
 #[test]
 fn each_row_answers_and_its_near_misses_fall_to_the_last_two(rt: HostRuntime) {
     for (place, row) in NEAR_MISSES.iter().enumerate() {
-        holds_at(&rt, is_answered(rt.alloc(), row), place as u64, "");
+        holds_at(&rt, is_answered(rt.alloc(), row), place as u64);
     }
 }
 

@@ -44,40 +44,26 @@ fn put(alloc: Global, text: &mut Vec<u8>, command: &Command) {
             path,
             message,
         } => {
-            put_numbers(
-                alloc,
-                text,
-                b"submit",
-                &[u64::from(*provider), moment.seconds()],
-            );
+            put_two(alloc, text, b"submit", *provider, moment.seconds());
             put_word(text, sender.bytes());
             put_path(text, path.as_slice());
             put_word(text, message.bytes());
         }
         Command::Tick { provider, moment } => {
-            put_numbers(
-                alloc,
-                text,
-                b"tick",
-                &[u64::from(*provider), moment.seconds()],
-            )
+            put_two(alloc, text, b"tick", *provider, moment.seconds())
         }
-        Command::Round { moment } => put_numbers(alloc, text, b"round", &[moment.seconds()]),
+        Command::Round { moment } => put_one(alloc, text, b"round", moment.seconds()),
         Command::Lose { from, to, place } => put_place(alloc, text, b"lose", *from, *to, *place),
         Command::Repeat { from, to, place } => {
             put_place(alloc, text, b"repeat", *from, *to, *place)
         }
         Command::Swap { from, to, place } => put_place(alloc, text, b"swap", *from, *to, *place),
         Command::Inject { from, to, frame } => {
-            put_numbers(alloc, text, b"inject", &[u64::from(*from), u64::from(*to)]);
+            put_two(alloc, text, b"inject", *from, u64::from(*to));
             put_word(text, frame.bytes());
         }
-        Command::Crash { provider } => {
-            put_numbers(alloc, text, b"crash", &[u64::from(*provider)])
-        }
-        Command::Restart { provider } => {
-            put_numbers(alloc, text, b"restart", &[u64::from(*provider)])
-        }
+        Command::Crash { provider } => put_one(alloc, text, b"crash", u64::from(*provider)),
+        Command::Restart { provider } => put_one(alloc, text, b"restart", u64::from(*provider)),
         Command::Book { address } => put_address(text, b"book", address),
         Command::Mailbox { address } => put_address(text, b"mailbox", address),
         Command::Show { address, place } => { put_item(alloc, text, b"show", address, *place) }
@@ -86,44 +72,42 @@ fn put(alloc: Global, text: &mut Vec<u8>, command: &Command) {
             moment,
             place,
         } => {
-            put_numbers(alloc, text, b"archive", &[moment.seconds()]);
+            put_one(alloc, text, b"archive", moment.seconds());
             put_number(alloc, text, u64::from(*place));
             put_word(text, address.bytes());
         }
-        Command::Upgrade { provider, moment } => put_numbers(
-            alloc,
-            text,
-            b"upgrade",
-            &[u64::from(*provider), moment.seconds()],
-        ),
+        Command::Upgrade { provider, moment } => {
+            put_two(alloc, text, b"upgrade", *provider, moment.seconds())
+        }
         Command::Vault { address } => put_address(text, b"vault", address),
         Command::VaultShow { address, place } => {
             put_item(alloc, text, b"vault-show", address, *place)
         }
-        Command::Screen { provider, place } => put_numbers(
-            alloc,
-            text,
-            b"screen",
-            &[u64::from(*provider), u64::from(*place)],
-        ),
+        Command::Screen { provider, place } => {
+            put_two(alloc, text, b"screen", *provider, u64::from(*place))
+        }
     }
 }
 
-/// Puts a word and numbers.
-fn put_numbers(alloc: Global, text: &mut Vec<u8>, word: &[u8], numbers: &[u64]) {
+/// Puts a word and a number.
+fn put_one(alloc: Global, text: &mut Vec<u8>, word: &[u8], number: u64) {
     let _ = text.extend_from_slice(word);
-    for number in numbers {
-        put_number(alloc, text, *number);
-    }
+    put_number(alloc, text, number);
+}
+
+/// Puts a word, a provider and a number.
+fn put_two(alloc: Global, text: &mut Vec<u8>, word: &[u8], provider: u32, number: u64) {
+    put_one(alloc, text, word, u64::from(provider));
+    put_number(alloc, text, number);
 }
 
 fn put_place(alloc: Global, text: &mut Vec<u8>, word: &[u8], from: u32, to: u32, place: u32) {
-    let numbers = [u64::from(from), u64::from(to), u64::from(place)];
-    put_numbers(alloc, text, word, &numbers);
+    put_two(alloc, text, word, from, u64::from(to));
+    put_number(alloc, text, u64::from(place));
 }
 
 fn put_item(alloc: Global, text: &mut Vec<u8>, word: &[u8], address: &Address, place: u32) {
-    put_numbers(alloc, text, word, &[u64::from(place)]);
+    put_one(alloc, text, word, u64::from(place));
     put_word(text, address.bytes());
 }
 

@@ -1,16 +1,15 @@
 //! Which messages screens look at, and what is refused for what they find. Worked out by hand.
 
 use crate::admission::{Row, cause};
-use crate::counting::Counting;
+use crate::boxes::{box_of, counter, pair_of};
 use crate::rows::holds;
-use pec_screen::{PatternScreen, Screen, Screens};
-use pec_types::{Cause, Text8};
-use std::alloc::{AllocError, Global};
+use pec_types::Cause;
+use std::alloc::Global;
 use std::sync::Arc;
 use std::sync::atomic::{AtomicU64, Ordering};
 
-/// A message, the cause for which it isn't accepted under a screen of the pattern `VIRUS`, and how often a box beside
-/// it looks.
+/// A message, the cause for which it isn't accepted under a screen of the patterns `VIRUS` and `WORM`, and how often a
+/// box beside it looks.
 static LOOKS: &[(Row, u64)] = &[
     (
         (
@@ -60,30 +59,15 @@ fn is_looked_at(alloc: Global, row: &Row, looks: u64) -> bool {
     let Ok(counted) = Arc::new(alloc, AtomicU64::new(0)) else {
         return false;
     };
-    match screens_of(alloc, &counted) {
-        Ok(mut screens) => {
+    match pair_of(
+        alloc,
+        counter(alloc, &counted),
+        box_of(alloc, b"VIRUS", b"WORM"),
+    ) {
+        Some(mut screens) => {
             cause(alloc, 0, row, &mut screens) == Some(row.3)
                 && counted.load(Ordering::SeqCst) == looks
         }
-        Err(_) => false,
+        None => false,
     }
-}
-
-fn screens_of(alloc: Global, counted: &Arc<AtomicU64, Global>) -> Result<Screens, AllocError> {
-    let mut screens: Vec<Box<dyn Screen>> = Vec::new(alloc);
-    screens.push(counter(alloc, counted)?)?;
-    screens.push(of_the_pattern(alloc)?)?;
-    Ok(Screens::new(screens))
-}
-
-fn counter(alloc: Global, counted: &Arc<AtomicU64, Global>) -> Result<Box<dyn Screen>, AllocError> {
-    let looks = Arc::try_clone(counted)?;
-    let screen: Box<dyn Screen> = Box::new(alloc, Counting { looks, seen: 0 })?;
-    Ok(screen)
-}
-
-fn of_the_pattern(alloc: Global) -> Result<Box<dyn Screen>, AllocError> {
-    let pattern = Text8::of(Vec::from_slice(alloc, b"VIRUS")?);
-    let screen: Box<dyn Screen> = Box::new(alloc, PatternScreen::new(vec![in alloc; pattern]?))?;
-    Ok(screen)
 }

@@ -1,8 +1,9 @@
 //! Another reader of the lines of output: what a line says is made a value again, and printed once more.
 
-use crate::values::{nameless_item, turn_with};
+use crate::printing::{round_of, some};
+use crate::values::nameless_item;
 use pec_directory::Directory;
-use pec_script::{book_text, items_text, marks_text, submitted_text, turns_text};
+use pec_script::{book_text, items_text, marks_text, submitted_text};
 use pec_types::{
     Address, BookLine, Cause, Class, Decision, Due, Event, ItemKind, ItemLine, Kind, Letter, Mark,
     Moment, MsgId, Refusal, Submitted,
@@ -50,24 +51,20 @@ fn printed_again(alloc: Global, directory: &Directory, form: Form, line: &[u8]) 
     match form {
         Form::Book => {
             let read = book_line(alloc, directory, line)?;
-            book_text(alloc, directory, from_ref(&read)).ok()
+            some(book_text(alloc, directory, from_ref(&read)))
         }
         Form::Mailbox => {
             let read = item_line(alloc, directory, line)?;
-            items_text(alloc, directory, from_ref(&read)).ok()
+            some(items_text(alloc, directory, from_ref(&read)))
         }
         Form::Ticks => {
             let read = mark(alloc, directory, line)?;
-            marks_text(alloc, directory, from_ref(&read)).ok()
+            some(marks_text(alloc, directory, from_ref(&read)))
         }
-        Form::Round => {
-            let event = event(alloc, directory, line)?;
-            let turn = turn_with(alloc, event)?;
-            turns_text(alloc, directory, from_ref(&turn)).ok()
-        }
+        Form::Round => round_of(alloc, directory, event(alloc, directory, line)),
         Form::Submission => {
             let submitted = submitted(alloc, directory, line)?;
-            submitted_text(alloc, directory, &submitted).ok()
+            some(submitted_text(alloc, directory, &submitted))
         }
     }
 }
@@ -265,15 +262,6 @@ fn due(word: &[u8]) -> Due {
 /// The event that stands behind the provider's name.
 fn event(alloc: Global, directory: &Directory, line: &[u8]) -> Option<Event> {
     let first = word(line, 1);
-    if is(first, "took") {
-        let id = id(alloc, directory, word(line, 2))?;
-        return Some(Event::Took(id));
-    }
-    if is(first, "charged") {
-        let id = id(alloc, directory, word(line, 2))?;
-        let by = directory.named(word(line, 3))?;
-        return Some(Event::Charged(id, by));
-    }
     if is(first, "repeat") {
         return letter_event(alloc, directory, line);
     }
@@ -284,12 +272,25 @@ fn event(alloc: Global, directory: &Directory, line: &[u8]) -> Option<Event> {
         let accounts = number_below(word(line, 2), 4_294_967_296)?;
         return Some(Event::Anomaly(accounts as u32));
     }
-    outcome_event(alloc, directory, line)
+    named_event(alloc, directory, line)
+}
+
+/// `took ID`, `charged ID PROVIDER`, or what names a recipient, too.
+fn named_event(alloc: Global, directory: &Directory, line: &[u8]) -> Option<Event> {
+    let id = id(alloc, directory, word(line, 2))?;
+    let first = word(line, 1);
+    if is(first, "took") {
+        return Some(Event::Took(id));
+    }
+    if is(first, "charged") {
+        let by = directory.named(word(line, 3))?;
+        return Some(Event::Charged(id, by));
+    }
+    outcome_event(alloc, id, line)
 }
 
 /// `acked ID RECIPIENT`, `learned ID RECIPIENT DECISION` or `decided ID RECIPIENT DECISION`.
-fn outcome_event(alloc: Global, directory: &Directory, line: &[u8]) -> Option<Event> {
-    let id = id(alloc, directory, word(line, 2))?;
+fn outcome_event(alloc: Global, id: MsgId, line: &[u8]) -> Option<Event> {
     let recipient = address(alloc, word(line, 3))?;
     let first = word(line, 1);
     if is(first, "acked") {

@@ -130,24 +130,27 @@ fn event_naming(recipient: Address, number: u32) -> Event {
     }
 }
 
-/// A turn of the first provider with this event alone.
-pub fn turn_with(alloc: Global, event: Event) -> Option<Turn> {
-    let events = vec![in alloc; event].ok()?;
-    Some(Turn {
+/// A turn of the first provider with this event alone. Where memory is wanting it lacks the event.
+pub fn turn_with(alloc: Global, event: Event) -> Turn {
+    let mut events = Vec::new(alloc);
+    let _ = events.push(event);
+    Turn {
         provider: 0,
         events: Items::of(events),
         sent: Items::of(Vec::new(alloc)),
         ended: None,
-    })
+    }
 }
 
-/// A turn of the second provider without events, which put so many frames to the first and ended so.
-pub fn turn_sending(alloc: Global, frames: u32, ended: Option<ProviderFault>) -> Option<Turn> {
-    let sent = vec![in alloc; (0, frames)].ok()?;
-    Some(Turn {
+/// A turn of the second provider without events, which put so many frames to the first and ended so. Where memory is
+/// wanting it put none.
+pub fn turn_sending(alloc: Global, frames: u32, ended: Option<ProviderFault>) -> Turn {
+    let mut sent = Vec::new(alloc);
+    let _ = sent.push((0, frames));
+    Turn {
         provider: 1,
         events: Items::of(Vec::new(alloc)),
         sent: Items::of(sent),
         ended,
-    })
+    }
 }

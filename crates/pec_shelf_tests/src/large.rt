@@ -6,8 +6,7 @@ use crate::playing::Desk;
 use crate::steps::address_of;
 use pec_records::Entry;
 use pec_types::{Due, Mark, Moment, Text8};
-use std::alloc::{AllocError, Global};
-use std::test::Fail;
+use std::alloc::Global;
 
 /// How many messages are open.
 const OPEN: usize = 200;
@@ -27,63 +26,79 @@ const QUIET: u64 = 1_704_186_001;
 const WARNED: u64 = 1_704_229_200;
 
 #[test]
-fn clock_calls_pass_many_open_pairs_by(rt: HostRuntime) -> Result<(), Fail> {
-    let mut desk = Desk::new(rt.alloc(), 0)?;
-    let mut log = Log::new(rt.alloc());
-    desk.play_line(&mut log, "start 0 0 two");
-    if !log.is(b"") {
-        return Err("no start".into());
+fn clock_calls_pass_many_open_pairs_by(rt: HostRuntime) {
+    assert!(rt; passes_by(rt.alloc()));
+}
+
+fn passes_by(alloc: Global) -> bool {
+    match Desk::new(alloc, 0) {
+        Some(mut desk) => passes_by_at(alloc, &mut desk),
+        None => false,
     }
-    accept_all(rt.alloc(), &mut desk)?;
-    tick_often(&mut desk)?;
-    warn_all(&mut desk)?;
-    places_are_kept(&desk)
+}
+
+fn passes_by_at(alloc: Global, desk: &mut Desk) -> bool {
+    starts(alloc, desk)
+        && accepts_all(alloc, desk)
+        && ticks_often(desk)
+        && warns_all(desk)
+        && keeps_places(desk)
+}
+
+fn starts(alloc: Global, desk: &mut Desk) -> bool {
+    let mut log = Log::new(alloc);
+    desk.play_line(&mut log, "start 0 0 two");
+    log.is(b"")
 }
 
 /// Takes the messages in: none has marks.
-fn accept_all(alloc: Global, desk: &mut Desk) -> Result<(), Fail> {
-    let message = message_of(alloc)?;
+fn accepts_all(alloc: Global, desk: &mut Desk) -> bool {
+    let message = message_of(alloc);
     for _ in 0..OPEN {
-        let entry = accepted(alloc, &message)?;
-        if marks_of(desk, entry)? != 0 {
-            return Err("marks of a message".into());
+        if !has_no_marks(desk, accepted(alloc, &message)) {
+            return false;
         }
     }
-    Ok(())
+    true
 }
 
-fn accepted(alloc: Global, message: &[u8]) -> Result<Entry, Fail> {
-    let (Some(moment), Some(sender)) = (
-        Moment::new(ACCEPTED),
+fn accepted(alloc: Global, message: &[u8]) -> Option<Entry> {
+    let moment = Moment::new(ACCEPTED)?;
+    match (
         address_of(alloc, "alice@alfa.example"),
-    ) else {
-        return Err("no sender".into());
-    };
-    Ok(Entry::Accepted {
-        moment,
-        sender,
-        message: Text8::of(Vec::from_slice(alloc, message)?),
-    })
-}
-
-/// A message with many recipients in one field.
-fn message_of(alloc: Global) -> Result<Vec<u8>, AllocError> {
-    let mut message = Vec::new(alloc);
-    message.extend_from_slice(b"From: alice@alfa.example\r\nTo: ")?;
-    for number in 0..RECIPIENTS {
-        add_recipient(alloc, &mut message, number)?;
+        Vec::from_slice(alloc, message),
+    ) {
+        (Some(sender), Ok(message)) => Some(Entry::Accepted {
+            moment,
+            sender,
+            message: Text8::of(message),
+        }),
+        _ => None,
     }
-    message.extend_from_slice(b"\r\n\r\n")?;
-    Ok(message)
 }
 
-fn add_recipient(alloc: Global, message: &mut Vec<u8>, number: usize) -> Result<(), AllocError> {
-    message.extend_from_slice(before(number))?;
-    message.extend_from_slice(b"r")?;
-    let digits = (number as u64).to_string(alloc)?;
-    message.extend_from_slice(digits.as_bytes())?;
-    message.extend_from_slice(b"@alfa.example")?;
-    Ok(())
+/// A message with many recipients in one field. Where memory is wanting some lack.
+fn message_of(alloc: Global) -> Vec<u8> {
+    let mut message = Vec::new(alloc);
+    put(&mut message, b"From: alice@alfa.example\r\nTo: ");
+    for number in 0..RECIPIENTS {
+        put_recipient(alloc, &mut message, number);
+    }
+    put(&mut message, b"\r\n\r\n");
+    message
+}
+
+fn put_recipient(alloc: Global, message: &mut Vec<u8>, number: usize) {
+    put(message, before(number));
+    put(message, b"r");
+    if let Ok(digits) = (number as u64).to_string(alloc) {
+        put(message, digits.as_bytes());
+    }
+    put(message, b"@alfa.example");
+}
+
+fn put(message: &mut Vec<u8>, bytes: &[u8]) {
+    let _ = message.extend_from_slice(bytes);
 }
 
 /// What stands before a recipient: a new line begins with each fortieth.
@@ -98,24 +113,21 @@ fn before(number: usize) -> &'static [u8] {
 }
 
 /// Clock calls in which nothing is due.
-fn tick_often(desk: &mut Desk) -> Result<(), Fail> {
+fn ticks_often(desk: &mut Desk) -> bool {
     for _ in 0..CALLS {
-        if marks_of(desk, ticked(QUIET)?)? != 0 {
-            return Err("marks before the time".into());
+        if !has_no_marks(desk, ticked(QUIET)) {
+            return false;
         }
     }
-    Ok(())
+    true
 }
 
 /// The clock call in which each pair is warned.
-fn warn_all(desk: &mut Desk) -> Result<(), Fail> {
-    let Some(marks) = desk.taken_in(ticked(WARNED)?)? else {
-        return Err("no step".into());
-    };
-    if marks.len() != OPEN * RECIPIENTS || !are_warnings(&marks) {
-        return Err("not all are warned".into());
+fn warns_all(desk: &mut Desk) -> bool {
+    match marks_of(desk, ticked(WARNED)) {
+        Some(marks) => marks.len() == OPEN * RECIPIENTS && are_warnings(&marks),
+        None => false,
     }
-    Ok(())
 }
 
 fn are_warnings(marks: &[Mark]) -> bool {
@@ -127,31 +139,34 @@ fn are_warnings(marks: &[Mark]) -> bool {
     true
 }
 
-fn ticked(seconds: u64) -> Result<Entry, Fail> {
-    let Some(moment) = Moment::new(seconds) else {
-        return Err("no moment".into());
-    };
-    Ok(Entry::Ticked { moment })
+fn ticked(seconds: u64) -> Option<Entry> {
+    let moment = Moment::new(seconds)?;
+    Some(Entry::Ticked { moment })
 }
 
 /// Each entry has the place with which it was taken in, from the first to the last.
-fn places_are_kept(desk: &Desk) -> Result<(), Fail> {
+fn keeps_places(desk: &Desk) -> bool {
     let last = (OPEN + CALLS) as u64 + 1;
     for number in [0, 1, OPEN as u64, last] {
         if !desk.has_place(number) {
-            return Err("another place".into());
+            return false;
         }
     }
-    if !desk.has_no_place(last + 1) {
-        return Err("a place of no entry".into());
-    }
-    Ok(())
+    desk.has_no_place(last + 1)
 }
 
-/// How many marks an entry has, which has to be a step.
-fn marks_of(desk: &mut Desk, entry: Entry) -> Result<usize, Fail> {
-    match desk.taken_in(entry)? {
-        Some(marks) => Ok(marks.len()),
-        None => Err("no step".into()),
+/// Whether there is an entry that is a step and has no marks.
+fn has_no_marks(desk: &mut Desk, entry: Option<Entry>) -> bool {
+    match marks_of(desk, entry) {
+        Some(marks) => marks.is_empty(),
+        None => false,
+    }
+}
+
+/// The marks of an entry; none where there is no such entry, or it is no step.
+fn marks_of(desk: &mut Desk, entry: Option<Entry>) -> Option<Vec<Mark>> {
+    match desk.taken_in(entry?) {
+        Ok(marks) => marks,
+        Err(_) => None,
     }
 }

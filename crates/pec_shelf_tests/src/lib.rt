@@ -24,6 +24,8 @@ mod random;
 #[cfg(test)]
 mod reading;
 #[cfg(test)]
+mod rows;
+#[cfg(test)]
 mod steps;
 #[cfg(test)]
 mod worked;

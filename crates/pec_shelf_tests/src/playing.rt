@@ -14,7 +14,6 @@ use pec_shelf::{DraftFault, Shelf, a_directory_has_a_trade, drafted, what_is_kep
 use pec_trial::two;
 use pec_types::{Address, Mark, NoMemory, Place, Steps};
 use std::alloc::Global;
-use std::test::Fail;
 
 /// A shelf and its directory. An entry that is no step has a line that says so, a clock call its marks, and any other
 /// entry none.
@@ -40,14 +39,16 @@ impl Drop for Desk {
 
 impl Desk {
     /// The shelf of a provider before its first entry.
-    pub(crate) fn new(alloc: Global, me: u32) -> Result<Desk, Fail> {
-        let directory = directory_of(alloc)?;
-        Ok(Desk {
-            alloc,
-            directory,
-            shelf: Shelf::new(alloc, me),
-            taken: 0,
-        })
+    pub(crate) fn new(alloc: Global, me: u32) -> Option<Desk> {
+        match Directory::read(alloc, two()) {
+            Ok(directory) => Some(Desk {
+                alloc,
+                directory,
+                shelf: Shelf::new(alloc, me),
+                taken: 0,
+            }),
+            Err(_) => None,
+        }
     }
 
     /// Does the steps of a script, line by line.
@@ -227,13 +228,6 @@ fn place_of(number: u64) -> Place {
     Place {
         at: number,
         length: 1,
-    }
-}
-
-fn directory_of(alloc: Global) -> Result<Directory, Fail> {
-    match Directory::read(alloc, two()) {
-        Ok(directory) => Ok(directory),
-        Err(_) => Err("no directory".into()),
     }
 }
 

@@ -8,7 +8,6 @@ use crate::steps::{Act, Id, Message, Question, Step};
 use pec_trial::two;
 use pec_types::{Decision, Refusal};
 use std::alloc::Global;
-use std::test::Fail;
 
 /// How many steps there are, of which each fourth asks something.
 const STEPS: u64 = 16_000;
@@ -191,21 +190,26 @@ impl Chance {
 }
 
 #[test]
-fn entries_in_random_order_come_to_what_a_plain_list_says(rt: HostRuntime) -> Result<(), Fail> {
-    let mut plain = Plain::new(rt.alloc(), 0);
-    let is_same = is_same(rt.alloc(), &mut plain)?;
-    assert!(rt; is_same);
-    assert!(rt; plain.messages() >= 1000);
-    Ok(())
+fn entries_in_random_order_come_to_what_a_plain_list_says(rt: HostRuntime) {
+    assert!(rt; is_same(rt.alloc()));
 }
 
-/// Whether a shelf and the list say the same.
-fn is_same(alloc: Global, plain: &mut Plain) -> Result<bool, Fail> {
+/// Whether a shelf and the list say the same of entries of which many are messages.
+fn is_same(alloc: Global) -> bool {
     let mut log = Log::new(alloc);
     let mut lines = Log::new(alloc);
-    let mut desk = Desk::new(alloc, 0)?;
-    play(&mut desk, &mut log, plain, &mut lines);
-    Ok(log.is_as(&lines))
+    let messages = match Desk::new(alloc, 0) {
+        Some(mut desk) => messages_of(alloc, &mut desk, &mut log, &mut lines),
+        None => 0,
+    };
+    messages >= 1000 && log.is_as(&lines)
+}
+
+/// Does the steps, and tells how many messages the list knows behind them.
+fn messages_of(alloc: Global, desk: &mut Desk, log: &mut Log, lines: &mut Log) -> usize {
+    let mut plain = Plain::new(alloc, 0);
+    play(desk, log, &mut plain, lines);
+    plain.messages()
 }
 
 fn play(desk: &mut Desk, log: &mut Log, plain: &mut Plain, lines: &mut Log) {

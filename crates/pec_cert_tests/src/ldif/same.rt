@@ -1,5 +1,6 @@
 //! Texts of LDIF that are one directory, and what is written of a directory. Expected texts were worked by hand in what
 //! docs/formats.md says, and their base64 by another program.
+use crate::rows::holds;
 use crate::texts::{is_text, is_value, put};
 use pec_directory::Directory;
 use pec_ldif::{directory_of, is_ldif, ldif_of};
@@ -294,7 +295,7 @@ static FIRSTS: [(&str, bool); 13] = [
 #[test]
 fn the_first_line_tells_what_is_ldif(rt: HostRuntime) {
     for (text, wanted) in &FIRSTS {
-        assert!(rt; is_ldif(text.as_bytes()) == *wanted, "{text}");
+        holds(&rt, is_ldif(text.as_bytes()) == *wanted, text);
     }
 }
 

@@ -1,9 +1,12 @@
 //! Disks and depots: files in folders of the tests' own.
 ghost use Rattle.std.specs.Prelude.{◌<◌};
 
+use super::journals::is_entry;
+use crate::texts::says;
 use pec_files::{FileDepot, FileDisk};
 use pec_journal::Journal;
-use pec_outside::{Depot, Disk, Failed};
+use pec_outside::{Depot, Disk};
+use pec_types::Place;
 use std::alloc::{AllocError, Global};
 use std::fs::{File, OpenOptions};
 use std::os::unix::fs::symlink;
@@ -36,51 +39,73 @@ fn a_file_reads_as_it_was_written(rt: HostRuntime) {
 }
 
 fn is_read_as_written(rt: &HostRuntime, folder: &str) -> bool {
-    make_empty(rt, folder).is_ok()
+    is_made_empty(rt, folder)
         && reads_as_written(rt, folder)
         && has_bytes(rt, "pec_files_written/pec-15.journal", b"aXzzz!")
-        && fs::remove_dir_all(rt, folder).is_ok()
+        && is_removed(rt, folder)
 }
 
 fn reads_as_written(rt: &HostRuntime, folder: &str) -> bool {
     match depot_over(rt, folder) {
-        Ok(mut depot) => match depot.disk(15) {
-            Ok(mut disk) => is_written_and_read(&mut disk),
-            Err(_) => false,
-        },
+        Ok(mut owned) => is_written_and_read(&mut owned.depot),
         Err(_) => false,
     }
 }
 
-fn is_written_and_read(disk: &mut FileDisk) -> bool {
+fn is_written_and_read(depot: &mut FileDepot<&HostRuntime>) -> bool {
+    match disk_of(depot, 15) {
+        Some(mut disk) => takes_and_gives(&mut disk),
+        None => false,
+    }
+}
+
+fn takes_and_gives(disk: &mut FileDisk) -> bool {
     let mut room = [b'-'; 4];
     takes_all(disk, WRITES)
         && gives_all(disk, &mut room, READS)
-        && disk.sync() == Ok(())
+        && disk.sync().is_ok()
         && disk.faults() == 0
 }
 
 fn takes_all(disk: &mut FileDisk, rows: &[Written]) -> bool {
     for row in rows {
-        if disk.write_at(row.0, row.1) != Ok(()) || disk.size() != Ok(row.2) {
+        if !takes(disk, row) {
             return false;
         }
     }
     true
+}
+
+fn takes(disk: &mut FileDisk, row: &Written) -> bool {
+    disk.write_at(row.0, row.1).is_ok() && has_size(disk, row.2)
+}
+
+fn has_size(disk: &mut FileDisk, wanted: u64) -> bool {
+    match disk.size() {
+        Ok(size) => size == wanted,
+        Err(_) => false,
+    }
 }
 
 fn gives_all(disk: &mut FileDisk, room: &mut [u8], rows: &[Read]) -> bool {
     for row in rows {
-        if disk.read_at(row.0, room) != Ok(row.1) || *room != *row.2 {
+        if !gives(disk, room, row) {
             return false;
         }
     }
     true
 }
 
+fn gives(disk: &mut FileDisk, room: &mut [u8], row: &Read) -> bool {
+    match disk.read_at(row.0, room) {
+        Ok(count) => count == row.1 && *room == *row.2,
+        Err(_) => false,
+    }
+}
+
 fn has_bytes(rt: &HostRuntime, path: &str, wanted: &[u8]) -> bool {
     match fs::read(rt, path) {
-        Ok(bytes) => bytes.as_slice() == wanted,
+        Ok(bytes) => says(bytes, wanted),
         Err(_) => false,
     }
 }
@@ -117,16 +142,13 @@ fn is_full(file: File) -> bool {
 
 fn reads_zeros(disk: &mut FileDisk) -> bool {
     let mut room = [b'-'; 2];
-    disk.size() == Ok(0)
-        && disk.read_at(7, &mut room) == Ok(2)
-        && room == *b"\0\0"
-        && disk.faults() == 0
+    has_size(disk, 0) && gives(disk, &mut room, &(7, 2, b"\0\0")) && disk.faults() == 0
 }
 
 fn fails_to_write(disk: &mut FileDisk) -> bool {
-    disk.write_at(0, b"abc") == Err(Failed)
+    disk.write_at(0, b"abc").is_err()
         && disk.faults() == 1
-        && disk.sync() == Err(Failed)
+        && disk.sync().is_err()
         && disk.faults() == 2
 }
 
@@ -134,7 +156,7 @@ fn fails_to_write(disk: &mut FileDisk) -> bool {
 fn is_no_file(folder: File) -> bool {
     let mut disk = FileDisk::new(folder);
     let mut room = [b'-'; 2];
-    disk.read_at(0, &mut room) == Err(Failed) && disk.faults() == 1
+    disk.read_at(0, &mut room).is_err() && disk.faults() == 1
 }
 
 #[test]
@@ -143,21 +165,25 @@ fn a_depot_hands_out_what_was_kept(rt: HostRuntime) {
 }
 
 fn is_handed_out_again(rt: &HostRuntime, folder: &str) -> bool {
-    make_empty(rt, folder).is_ok()
-        && hands_out_what_was_kept(rt, folder)
-        && fs::remove_dir_all(rt, folder).is_ok()
+    is_made_empty(rt, folder) && hands_out_what_was_kept(rt, folder) && is_removed(rt, folder)
 }
 
 fn hands_out_what_was_kept(rt: &HostRuntime, folder: &str) -> bool {
     match depot_over(rt, folder) {
-        Ok(mut depot) => {
-            fails_without_a_folder(rt, folder, &mut depot)
-                && keeps_a_written_disk(&mut depot)
-                && has_kept(&mut depot)
-                && depot.faults() == 2
-        }
+        Ok(mut owned) => keeps_what_was_written(rt, folder, &mut owned.depot),
         Err(_) => false,
     }
+}
+
+fn keeps_what_was_written(
+    rt: &HostRuntime,
+    folder: &str,
+    depot: &mut FileDepot<&HostRuntime>,
+) -> bool {
+    fails_without_a_folder(rt, folder, depot)
+        && keeps_a_written_disk(depot)
+        && has_kept(depot)
+        && depot.faults() == 2
 }
 
 /// Whether no file can be made in a folder that isn't there. It is there again then.
@@ -166,45 +192,40 @@ fn fails_without_a_folder(
     folder: &str,
     depot: &mut FileDepot<&HostRuntime>,
 ) -> bool {
-    fs::remove_dir_all(rt, folder).is_ok()
-        && depot.disk(0).is_err()
-        && depot.faults() == 1
-        && fs::create_dir(rt, folder).is_ok()
+    is_removed(rt, folder) && gives_none(depot, 0, 1) && is_made(rt, folder)
 }
 
 /// Writes to a disk, which isn't handed out twice, crashes it and keeps it.
 fn keeps_a_written_disk(depot: &mut FileDepot<&HostRuntime>) -> bool {
-    match depot.disk(0) {
-        Ok(mut disk) => {
-            let is_out_once = disk.write_at(0, b"abc") == Ok(())
-                && depot.disk(0).is_err()
-                && depot.faults() == 2;
+    match disk_of(depot, 0) {
+        Some(mut disk) => {
+            let is_out_once = disk.write_at(0, b"abc").is_ok() && gives_none(depot, 0, 2);
             let disk = depot.crash(0, disk);
-            depot.keep(0, disk);
+            keep(depot, 0, disk);
             is_out_once
         }
-        Err(_) => false,
+        None => false,
     }
 }
 
 /// Whether what was written is there after a crash that was played, and after the disk was at home. Another provider's
 /// disk is another.
 fn has_kept(depot: &mut FileDepot<&HostRuntime>) -> bool {
-    match depot.disk(0) {
-        Ok(mut disk) => reads_three(&mut disk) && has_an_empty_disk(depot),
-        Err(_) => false,
+    match disk_of(depot, 0) {
+        Some(mut disk) => reads_three(&mut disk) && has_an_empty_disk(depot),
+        None => false,
     }
 }
 
 fn reads_three(disk: &mut FileDisk) -> bool {
     let mut room = [b'-'; 4];
-    disk.read_at(0, &mut room) == Ok(3) && room == *b"abc-"
+    gives(disk, &mut room, &(0, 3, b"abc-"))
 }
 
 fn has_an_empty_disk(depot: &mut FileDepot<&HostRuntime>) -> bool {
-    match depot.disk(1) {
-        Ok(mut disk) => disk.size() == Ok(0),
-        Err(_) => false,
+    match disk_of(depot, 1) {
+        Some(mut disk) => has_size(&mut disk, 0),
+        None => false,
     }
 }
 
@@ -214,9 +235,7 @@ fn a_journal_is_opened_again_by_a_later_run(rt: HostRuntime) {
 }
 
 fn is_opened_again(rt: &HostRuntime, folder: &str) -> bool {
-    make_empty(rt, folder).is_ok()
-        && is_opened_by_a_later_run(rt, folder)
-        && fs::remove_dir_all(rt, folder).is_ok()
+    is_made_empty(rt, folder) && is_opened_by_a_later_run(rt, folder) && is_removed(rt, folder)
 }
 
 fn is_opened_by_a_later_run(rt: &HostRuntime, folder: &str) -> bool {
@@ -226,21 +245,21 @@ fn is_opened_by_a_later_run(rt: &HostRuntime, folder: &str) -> bool {
 /// The depot is dropped then, and its files are closed.
 fn makes_a_journal(rt: &HostRuntime, folder: &str) -> bool {
     match depot_over(rt, folder) {
-        Ok(mut depot) => keeps_a_journal(rt.alloc(), &mut depot),
+        Ok(mut owned) => keeps_a_journal(rt.alloc(), &mut owned.depot),
         Err(_) => false,
     }
 }
 
 fn keeps_a_journal(alloc: Global, depot: &mut FileDepot<&HostRuntime>) -> bool {
-    match depot.disk(2) {
-        Ok(disk) => match journal_on(alloc, disk) {
+    match disk_of(depot, 2) {
+        Some(disk) => match journal_on(alloc, disk) {
             Some(journal) => {
-                depot.keep(2, journal.into_disk());
+                keep(depot, 2, journal.into_disk());
                 true
             }
             None => false,
         },
-        Err(_) => false,
+        None => false,
     }
 }
 
@@ -260,25 +279,30 @@ fn takes_entry<D: Disk>(alloc: Global, journal: &mut Journal<D>, entry: &[u8]) -
 
 fn has_a_journal(rt: &HostRuntime, folder: &str) -> bool {
     match depot_over(rt, folder) {
-        Ok(mut later) => match later.disk(2) {
-            Ok(disk) => is_journal(rt.alloc(), disk),
-            Err(_) => false,
-        },
+        Ok(mut later) => gives_a_journal(rt.alloc(), &mut later.depot),
         Err(_) => false,
+    }
+}
+
+fn gives_a_journal(alloc: Global, depot: &mut FileDepot<&HostRuntime>) -> bool {
+    match disk_of(depot, 2) {
+        Some(disk) => is_journal(alloc, disk),
+        None => false,
     }
 }
 
 /// Whether it has one entry, `abc`.
 fn is_journal<D: Disk + Drop>(alloc: Global, disk: D) -> bool {
     match Journal::reopen(alloc, disk) {
-        Ok((mut journal, places)) => match places.as_slice() {
-            [place] => match journal.read(alloc, *place) {
-                Ok(entry) => entry.as_slice() == b"abc".as_slice(),
-                Err(_) => false,
-            },
-            _ => false,
-        },
+        Ok((mut journal, places)) => has_one_entry(alloc, &mut journal, &places),
         Err(_) => false,
+    }
+}
+
+fn has_one_entry<D: Disk>(alloc: Global, journal: &mut Journal<D>, places: &[Place]) -> bool {
+    match places {
+        [place] => is_entry(alloc, journal, *place, b"abc"),
+        _ => false,
     }
 }
 
@@ -288,18 +312,18 @@ fn a_journal_is_held_by_one_depot(rt: HostRuntime) {
 }
 
 fn is_held_by_one(rt: &HostRuntime, folder: &str) -> bool {
-    make_empty(rt, folder).is_ok()
+    is_made_empty(rt, folder)
         && is_held_out_and_at_home(rt, folder)
         && has_bytes(rt, "pec_files_held/pec-0.journal", b"abc")
         && takes_its_turn(rt, folder)
-        && fs::remove_dir_all(rt, folder).is_ok()
+        && is_removed(rt, folder)
 }
 
 /// Whether another depot gets no disk that this one has out or at home, and one that this one hasn't.
 fn is_held_out_and_at_home(rt: &HostRuntime, folder: &str) -> bool {
     match depot_over(rt, folder) {
-        Ok(mut depot) => {
-            is_held_out(rt, folder, &mut depot)
+        Ok(mut owned) => {
+            is_held_out(rt, folder, &mut owned.depot)
                 && is_not_had(rt, folder, 0)
                 && is_had(rt, folder, 1)
         }
@@ -308,13 +332,13 @@ fn is_held_out_and_at_home(rt: &HostRuntime, folder: &str) -> bool {
 }
 
 fn is_held_out(rt: &HostRuntime, folder: &str, depot: &mut FileDepot<&HostRuntime>) -> bool {
-    match depot.disk(0) {
-        Ok(mut disk) => {
-            let is_held = is_not_had(rt, folder, 0) && disk.write_at(0, b"abc") == Ok(());
-            depot.keep(0, disk);
+    match disk_of(depot, 0) {
+        Some(mut disk) => {
+            let is_held = is_not_had(rt, folder, 0) && disk.write_at(0, b"abc").is_ok();
+            keep(depot, 0, disk);
             is_held
         }
-        Err(_) => false,
+        None => false,
     }
 }
 
@@ -327,7 +351,7 @@ fn is_had(rt: &HostRuntime, folder: &str, provider: u32) -> bool
     requires { provider < 16 }
 {
     match depot_over(rt, folder) {
-        Ok(mut depot) => depot.disk(provider).is_ok() && depot.faults() == 0,
+        Ok(mut owned) => gives_one(&mut owned.depot, provider),
         Err(_) => false,
     }
 }
@@ -336,9 +360,34 @@ fn is_not_had(rt: &HostRuntime, folder: &str, provider: u32) -> bool
     requires { provider < 16 }
 {
     match depot_over(rt, folder) {
-        Ok(mut depot) => depot.disk(provider).is_err() && depot.faults() == 1,
+        Ok(mut owned) => gives_none(&mut owned.depot, provider, 1),
         Err(_) => false,
     }
+}
+
+fn gives_one(depot: &mut FileDepot<&HostRuntime>, provider: u32) -> bool
+    requires { provider < 16 }
+{
+    disk_of(depot, provider).is_some() && depot.faults() == 0
+}
+
+/// Whether the depot doesn't give a disk, and so many of its calls failed by then.
+fn gives_none(depot: &mut FileDepot<&HostRuntime>, provider: u32, faults: u64) -> bool
+    requires { provider < 16 }
+{
+    disk_of(depot, provider).is_none() && depot.faults() == faults
+}
+
+fn disk_of(depot: &mut FileDepot<&HostRuntime>, provider: u32) -> Option<FileDisk>
+    requires { provider < 16 }
+{
+    depot.disk(provider).ok()
+}
+
+fn keep(depot: &mut FileDepot<&HostRuntime>, provider: u32, disk: FileDisk)
+    requires { provider < 16 }
+{
+    depot.keep(provider, disk)
 }
 
 #[test]
@@ -347,13 +396,20 @@ fn no_link_is_a_journal(rt: HostRuntime) {
 }
 
 fn is_no_link(rt: &HostRuntime, folder: &str) -> bool {
-    make_empty(rt, folder).is_ok()
+    is_made_empty(rt, folder)
         && makes_links(rt).is_ok()
         && is_not_had(rt, folder, 0)
         && is_not_had(rt, folder, 1)
         && has_bytes(rt, "pec_files_linked/elsewhere", b"abc")
-        && fs::exists(rt, "pec_files_linked/nowhere").is_ok_and(|there| !there)
-        && fs::remove_dir_all(rt, folder).is_ok()
+        && is_not_there(rt, "pec_files_linked/nowhere")
+        && is_removed(rt, folder)
+}
+
+fn is_not_there(rt: &HostRuntime, path: &str) -> bool {
+    match fs::exists(rt, path) {
+        Ok(is_there) => !is_there,
+        Err(_) => false,
+    }
 }
 
 /// A link to a file, and one that leads nowhere.
@@ -363,15 +419,33 @@ fn makes_links(rt: &HostRuntime) -> io::Result<()> {
     symlink(rt, "nowhere", "pec_files_linked/pec-1.journal")
 }
 
-fn make_empty(rt: &HostRuntime, folder: &str) -> io::Result<()> {
-    let _ = fs::remove_dir_all(rt, folder);
-    fs::create_dir(rt, folder)
+fn is_made_empty(rt: &HostRuntime, folder: &str) -> bool {
+    let _ = is_removed(rt, folder);
+    is_made(rt, folder)
 }
 
-fn depot_over<'a>(
-    rt: &'a HostRuntime,
-    folder: &str,
-) -> Result<FileDepot<&'a HostRuntime>, AllocError> {
+fn is_removed(rt: &HostRuntime, folder: &str) -> bool {
+    fs::remove_dir_all(rt, folder).is_ok()
+}
+
+fn is_made(rt: &HostRuntime, folder: &str) -> bool {
+    fs::create_dir(rt, folder).is_ok()
+}
+
+/// A depot that a test owns.
+struct Owned<'a> {
+    depot: FileDepot<&'a HostRuntime>,
+}
+
+impl Drop for Owned<'_> {
+    fn drop(self) {
+        let Owned { depot: _ } = self;
+    }
+}
+
+fn depot_over<'a>(rt: &'a HostRuntime, folder: &str) -> Result<Owned<'a>, AllocError> {
     let folder = String::from_str(rt.alloc(), folder)?;
-    Ok(FileDepot::new(rt, folder))
+    Ok(Owned {
+        depot: FileDepot::new(rt, folder),
+    })
 }

@@ -1,6 +1,7 @@
 //! Journals: the files that they open over, the bytes by which they grow, and calls of the disk that fail.
 use super::dealt::Dealt;
-use crate::texts::{calls, joined, put, put_number};
+use crate::rows::holds_at;
+use crate::texts::{are_these, calls, joined, put, put_number, says};
 use pec_journal::{
     AppendFault, CreateFault, ENTRY_LIMIT, JOURNAL_LIMIT, Journal, OpenFault, ReadFault,
 };
@@ -43,7 +44,7 @@ fn a_journal_opens_over_its_file_alone(rt: HostRuntime) {
 /// Whether reopening a disk that holds these bytes tells this.
 fn tells(alloc: Global, bytes: &[u8], wanted: &[u8]) -> bool {
     let mut disk = MemDisk::new(alloc, Vec::new(alloc));
-    holds_then(&mut disk, bytes) && told(alloc, disk).as_slice() == wanted
+    holds_then(&mut disk, bytes) && says(told(alloc, disk), wanted)
 }
 
 // For each place, where a file that is cut off there isn't one.
@@ -91,8 +92,8 @@ static FLIPS: [&str; 29] = [
 #[test]
 fn each_cut_and_each_turned_bit_is_told(rt: HostRuntime) {
     for at in 0..29 {
-        assert!(rt; is_cut_told(rt.alloc(), at), "cut at {at}");
-        assert!(rt; is_flip_told(rt.alloc(), at), "turned at {at}");
+        holds_at(&rt, is_cut_told(rt.alloc(), at), at as u64, "cut");
+        holds_at(&rt, is_flip_told(rt.alloc(), at), at as u64, "turned");
     }
 }
 
@@ -157,9 +158,15 @@ fn grows<D: Disk>(alloc: Global, journal: &mut Journal<D>) -> bool {
         && is_entry(alloc, journal, place, b"ab")
 }
 
-fn is_entry<D: Disk>(alloc: Global, journal: &mut Journal<D>, place: Place, wanted: &[u8]) -> bool {
+/// Whether this is the entry at a place.
+pub(super) fn is_entry<D: Disk>(
+    alloc: Global,
+    journal: &mut Journal<D>,
+    place: Place,
+    wanted: &[u8],
+) -> bool {
     match journal.read(alloc, place) {
-        Ok(entry) => entry.as_slice() == wanted,
+        Ok(entry) => says(entry, wanted),
         Err(_) => false,
     }
 }
@@ -172,14 +179,22 @@ fn holds_one_entry(disk: &mut MemDisk) -> bool {
     let mut room = [b'-'; 20];
     // four to open it, four to append, one to read
     disk.calls() == 12
-        && disk.read_at(0, &mut room) == Ok(16)
-        && room == *b"PECJRN1\n\x01\0\0\0\x02ab\0----"
+        && is_read(disk, &mut room, 16)
+        && are_these(&room, b"PECJRN1\n\x01\0\0\0\x02ab\0----")
+}
+
+/// Whether a read at the front has so many bytes.
+fn is_read(disk: &mut MemDisk, room: &mut [u8], wanted: usize) -> bool {
+    match disk.read_at(0, room) {
+        Ok(count) => count == wanted,
+        Err(_) => false,
+    }
 }
 
 /// Whether no journal is made over it, and it tells its entry then.
 fn stays_as_it_is(alloc: Global, disk: MemDisk) -> bool {
     match Journal::create(disk) {
-        Err((CreateFault::NotEmpty, disk)) => told(alloc, disk).as_slice() == b"ab;".as_slice(),
+        Err((CreateFault::NotEmpty, disk)) => says(told(alloc, disk), b"ab;"),
         _ => false,
     }
 }
@@ -230,7 +245,7 @@ fn are_read<D: Disk>(alloc: Global, journal: &mut Journal<D>) -> bool {
 fn are_told_again(alloc: Global, disk: MemDisk) -> bool {
     match Journal::reopen(alloc, disk) {
         Ok((mut journal, places)) => {
-            are_these(&places)
+            are_the_places(&places)
                 && are_read(alloc, &mut journal)
                 && journal.into_disk().calls() == 15 + 3 + 7 + 3
         }
@@ -238,19 +253,19 @@ fn are_told_again(alloc: Global, disk: MemDisk) -> bool {
     }
 }
 
-fn are_these(places: &[Place]) -> bool {
-    for (number, (wanted, _)) in PLACES.iter().enumerate() {
-        if places.get(number) != Some(wanted) {
-            return false;
+fn are_the_places(places: &[Place]) -> bool {
+    match places {
+        [first, second, third] => {
+            *first == PLACES[0].0 && *second == PLACES[1].0 && *third == PLACES[2].0
         }
+        _ => false,
     }
-    places.len() == 3
 }
 
 #[test]
 fn a_read_that_fails_leaves_the_journal_as_it_was(rt: HostRuntime) {
     for call in 15..18 {
-        assert!(rt; fails_alone(rt.alloc(), call), "call {call}");
+        holds_at(&rt, fails_alone(rt.alloc(), call), call, "");
     }
 }
 
@@ -316,7 +331,7 @@ fn is_given_one_of_ten(alloc: Global) -> bool {
 #[test]
 fn an_entry_is_there_or_not_after_each_crash(rt: HostRuntime) {
     for call in 7..12 {
-        assert!(rt; is_told_after_each_crash(rt.alloc(), call), "call {call}");
+        holds_at(&rt, is_told_after_each_crash(rt.alloc(), call), call, "");
     }
 }
 
@@ -372,23 +387,22 @@ fn left_by(call: u64, kept: u64) -> &'static str {
 fn leaves(alloc: Global, disk: MemDisk, kept: u64, wanted: &str) -> bool {
     let mut depot = MemDepot::new(alloc, Vec::new(alloc), calls(alloc, &[kept]));
     let left = depot.crash(0, disk);
-    told(alloc, left).as_slice() == wanted.as_bytes()
+    says(told(alloc, left), wanted.as_bytes())
 }
 
 #[test]
 fn a_disk_that_fails_gives_no_journal(rt: HostRuntime) {
     for call in 0..4 {
-        assert!(rt;
+        holds_at(
+            &rt,
             is_made(rt.alloc(), call) == (3 <= call),
-            "call {call} of create"
+            call,
+            "create",
         );
     }
     // Two calls make the file, then a sync, the size, the header and the two gates are asked for.
     for call in 2..8 {
-        assert!(rt;
-            is_reopened(rt.alloc(), call) == Some(7 <= call),
-            "call {call} of reopen"
-        );
+        holds_at(&rt, reopens(rt.alloc(), call, 7 <= call), call, "reopen");
     }
 }
 
@@ -396,14 +410,10 @@ fn is_made(alloc: Global, call: u64) -> bool {
     fresh(alloc, &[call]).is_some()
 }
 
-/// None where the disk doesn't hold its bytes.
-fn is_reopened(alloc: Global, call: u64) -> Option<bool> {
+/// Whether the disk holds its bytes, and a journal is opened over them just where one is wanted.
+fn reopens(alloc: Global, call: u64, wanted: bool) -> bool {
     let mut disk = MemDisk::new(alloc, calls(alloc, &[call]));
-    if holds_then(&mut disk, b"PECJRN1\n\x01\0\0\0\x02ab\0") {
-        Some(opened(alloc, disk).is_some())
-    } else {
-        None
-    }
+    holds_then(&mut disk, b"PECJRN1\n\x01\0\0\0\x02ab\0") && opened(alloc, disk).is_some() == wanted
 }
 
 // 255 entries of 4,294,967,295 bytes and one more bring the end to seven bytes before the limit.

@@ -1,6 +1,6 @@
 //! Heads at their bounds, what is read of a connection, and connections that fail.
 use super::desk::Mood;
-use super::serving::{Exchange, NEVER, answers, serve};
+use super::serving::{Exchange, NEVER, answers, has_status, serve};
 use crate::rows::holds_at;
 use crate::texts::{joined, put};
 use pec_http::Served;
@@ -103,7 +103,7 @@ fn reads_one(alloc: Global) -> bool {
 /// Whether the request is answered when so many bytes of the input were read.
 fn has_read(alloc: Global, input: &[u8], bytes: usize) -> bool {
     let exchange = serve(alloc, Mood::Accepts, input, 1, NEVER);
-    exchange.served == Served::Answered(200) && exchange.wire.at == bytes
+    has_status(exchange.served, 200) && exchange.wire.at == bytes
 }
 
 const SUBMISSION: &[u8] =

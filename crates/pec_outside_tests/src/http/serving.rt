@@ -3,7 +3,7 @@ ghost use Rattle.std.specs.Prelude.{◌<◌};
 
 use super::desk::{Mood, OneAccountDesk};
 use super::wire::Wire;
-use crate::texts::{joined, put, put_number};
+use crate::texts::{joined, put, put_number, says};
 use pec_http::{Patterns, Served, serve_one};
 use std::alloc::Global;
 
@@ -50,7 +50,7 @@ pub fn answers(alloc: Global, input: &[u8], piece: usize, status: u16, submissio
     requires { 0 < piece }
 {
     let exchange = serve(alloc, Mood::Accepts, input, piece, NEVER);
-    exchange.served == Served::Answered(status) && exchange.desk.submissions == submissions
+    has_status(exchange.served, status) && exchange.desk.submissions == submissions
 }
 
 /// Whether the request is answered with this status and this body of this kind, and nothing else is written.
@@ -65,8 +65,18 @@ pub fn is_answered(
     requires { 0 < piece }
 {
     let exchange = serve(alloc, mood, input, piece, NEVER);
-    exchange.served == Served::Answered(wanted.0)
-        && exchange.wire.written == written(alloc, kind, wanted.0, wanted.1)
+    has_status(exchange.served, wanted.0)
+        && says(
+            written(alloc, kind, wanted.0, wanted.1),
+            exchange.wire.written.as_slice(),
+        )
+}
+
+pub fn has_status(served: Served, wanted: u16) -> bool {
+    match served {
+        Served::Answered(status) => status == wanted,
+        Served::ReadFault | Served::WriteFault => false,
+    }
 }
 
 /// The answer, written out by hand.

@@ -4,7 +4,7 @@ use super::answers::TEXT;
 use super::desk::Mood;
 use super::serving::{NEVER, answers, is_answered, serve};
 use crate::rows::all_hold;
-use crate::texts::put;
+use crate::texts::{are_these, put};
 use std::alloc::Global;
 
 const SUBMISSION: &[u8] = b"POST /mail/anna@alfa.example/submit HTTP/1.1\r\nx-key: chiave\r\n\
@@ -125,7 +125,7 @@ fn a_submission_reaches_the_desk_once_and_whole(rt: HostRuntime) {
 /// Whether the desk is handed so many addresses and this message.
 fn reaches_the_desk(alloc: Global, request: &[u8], addresses: usize, message: &[u8]) -> bool {
     let exchange = serve(alloc, Mood::Accepts, request, 7, NEVER);
-    exchange.desk.addresses == addresses && exchange.desk.message.as_slice() == message
+    exchange.desk.addresses == addresses && are_these(exchange.desk.message.as_slice(), message)
 }
 
 // A submission that ends too early isn't handed in, wherever it ends.
