@@ -32,8 +32,7 @@ pub fn brief(alloc: Global, original: &[u8]) -> Result<Vec<u8>, NoMemory>
     ensures exact { IfOk result (λ brief. brief.items ≡ brief_of original.now) }
 {
     a_message_has_one_brief_form();
-    let brief = brief_bytes(alloc, original)?;
-    Ok(brief)
+    brief_bytes(alloc, original)
 }
 
 #[tactic(auto, unfolding(crate::specs::BriefReading::brief_of))]
@@ -43,8 +42,7 @@ fn brief_bytes(alloc: Global, original: &[u8]) -> Result<Vec<u8>, NoMemory>
     match short(alloc, original)? {
         Some(short) => Ok(short),
         None => {
-            let whole = Vec::from_slice(alloc, original)?;
-            Ok(whole)
+            Vec::from_slice(alloc, original)
         }
     }
 }
@@ -56,8 +54,7 @@ fn short(alloc: Global, original: &[u8]) -> Result<Option<Vec<u8>>, NoMemory>
 {
     match Head::read(alloc, original) {
         Ok((head, place)) => {
-            let short = short_behind(alloc, original, &head, place)?;
-            Ok(short)
+            short_behind(alloc, original, &head, place)
         }
         Err(HeadFault::NoMemory) => Err(NoMemory),
         Err(_) => Ok(None),
@@ -76,8 +73,7 @@ fn short_behind(
     parts_stand_in_order();
     match Parts::read(alloc, head, &original[place..]) {
         Ok(parts) => {
-            let short = shorten(alloc, original, place, &parts)?;
-            Ok(short)
+            shorten(alloc, original, place, &parts)
         }
         Err(BodyFault::NoMemory) => Err(NoMemory),
         Err(_) => Ok(None),

@@ -53,8 +53,7 @@ pub(crate) fn addresses(alloc: Global, recipients: &[Recipient]) -> Result<Vec<A
 pub(crate) fn copied(alloc: Global, bytes: &[u8]) -> Result<Vec<u8>, NoMemory>
     ensures { IfOk result (λ text. text.items ≡ bytes.now) }
 {
-    let text = Vec::from_slice(alloc, bytes)?;
-    Ok(text)
+    Vec::from_slice(alloc, bytes)
 }
 
 /// The bytes of a text, and none where there is none.

@@ -40,6 +40,5 @@ fn read_directory(alloc: Global, text: &[u8]) -> Result<Directory, LdifRefused>
 {
     let entries = read_ldif(alloc, text)?;
     let table = table_of(alloc, entries.as_slice())?;
-    let directory = Directory::from_table(alloc, &table)?;
-    Ok(directory)
+    Directory::from_table(alloc, &table)
 }

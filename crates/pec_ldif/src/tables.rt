@@ -185,8 +185,7 @@ fn number_value(alloc: Global, text: &str) -> Result<Value, NoMemory>
     match short_number(text.as_bytes()) {
         Some(number) => Ok(Value::from(number)),
         None => {
-            let value = Value::string(alloc, text)?;
-            Ok(value)
+            Value::string(alloc, text)
         }
     }
 }

@@ -152,8 +152,7 @@ pub fn with_subject(
 pub fn service_address(alloc: Global, domain: &[u8]) -> Result<Vec<u8>, NoMemory>
     ensures { IfOk result (λ address. address.items ≡ service_at domain.now) }
 {
-    let address = joined(alloc, b"posta-certificata@", domain)?;
-    Ok(address)
+    joined(alloc, b"posta-certificata@", domain)
 }
 
 /// A name in angle brackets (RFC 5322, section 3.6.4).

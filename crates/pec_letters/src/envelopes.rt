@@ -215,8 +215,7 @@ fn compose_with<'a, S: Sealer>(
         message,
         certificate,
     };
-    let letter = compose_letter(alloc, sealer, provider, heading, &contents)?;
-    Ok(letter)
+    compose_letter(alloc, sealer, provider, heading, &contents)
 }
 
 /// Who writes: the address of the provider of this domain, on behalf of the sender.

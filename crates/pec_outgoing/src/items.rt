@@ -99,8 +99,7 @@ fn envelope<S: Sealer>(
     let Some(envelope) = took_in(id, entry) else {
         return Err(ComposeFault::Changed);
     };
-    let text = Vec::from_slice(desk.alloc, envelope)?;
-    Ok(text)
+    Vec::from_slice(desk.alloc, envelope)
 }
 
 /// The receipt of delivery or of an error, but for a virus, from which an outcome was learned.
@@ -117,8 +116,7 @@ fn outcome<S: Sealer>(
     let Some(receipt) = learned_in(id, recipient, entry) else {
         return Err(ComposeFault::Changed);
     };
-    let text = Vec::from_slice(desk.alloc, receipt)?;
-    Ok(text)
+    Vec::from_slice(desk.alloc, receipt)
 }
 
 /// A receipt or a notice that this provider composes of a message that it accepted.
@@ -163,8 +161,7 @@ fn receipt_with<S: Sealer>(
         facts: message.facts.copy(desk.alloc)?,
         recipient: copied(desk.alloc, recipient)?,
     };
-    let text = receipt_text(desk, &receipt, original)?;
-    Ok(text)
+    receipt_text(desk, &receipt, original)
 }
 
 fn copied(alloc: Global, address: &Option<Address>) -> Result<Option<Address>, NoMemory>
@@ -257,6 +254,5 @@ fn anomaly<S: Sealer>(
     let Some(message) = anomaly_in(entry) else {
         return Err(ComposeFault::Changed);
     };
-    let text = anomaly_text(desk, number, moment, message)?;
-    Ok(text)
+    anomaly_text(desk, number, moment, message)
 }

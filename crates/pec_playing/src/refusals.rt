@@ -17,8 +17,7 @@ pub(crate) fn refusal_text(
     match fault {
         ProviderFault::NoMemory => Err(NoMemory),
         _ => {
-            let text = fault_text(alloc, directory, &fault)?;
-            Ok(text)
+            fault_text(alloc, directory, &fault)
         }
     }
 }

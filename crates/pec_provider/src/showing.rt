@@ -48,8 +48,7 @@ impl<D> Provider<D> {
             → IfErr result (IsUnasked (trade.is_account house.now.me account.now) (not self.now.chronicle.down)) }
     {
         self.asked(house, account)?;
-        let lines = self.shelf.book(account)?;
-        Ok(lines)
+        self.shelf.book(account)
     }
 
     /// The lines of its mailbox, in order of placing.
@@ -68,8 +67,7 @@ impl<D> Provider<D> {
             → IfErr result (IsUnasked (trade.is_account house.now.me account.now) (not self.now.chronicle.down)) }
     {
         self.asked(house, account)?;
-        let lines = self.shelf.items(account)?;
-        Ok(lines)
+        self.shelf.items(account)
     }
 
     /// The lines of its archive, in the order in which the items were moved there.
@@ -88,8 +86,7 @@ impl<D> Provider<D> {
             → IfErr result (IsUnasked (trade.is_account house.now.me account.now) (not self.now.chronicle.down)) }
     {
         self.asked(house, account)?;
-        let lines = self.shelf.vault(account)?;
-        Ok(lines)
+        self.shelf.vault(account)
     }
 
     /// Whether an account of the provider may ask, while it is up.

@@ -66,8 +66,7 @@ impl<D: Disk> Provider<D> {
             return Err(ProviderFault::Down);
         }
         if let Some(facts) = own_facts(&self.shelf, house.me, id) {
-            let facts = facts.copy(alloc)?;
-            return Ok(facts);
+            return facts.copy(alloc);
         }
         let Some(number) = self.shelf.took(id) else {
             return Err(ProviderFault::NoItem);

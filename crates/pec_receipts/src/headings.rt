@@ -71,8 +71,7 @@ fn receipt_name(
         b"@",
         domain,
     ];
-    let name = joined(alloc, &pieces)?;
-    Ok(name)
+    joined(alloc, &pieces)
 }
 
 fn place_text(alloc: Global, place: Option<usize>) -> Result<Vec<u8>, AllocError>
@@ -98,8 +97,7 @@ pub(crate) fn ack_value(
 {
     let name = name(alloc, directory, receipt.id)?;
     let pieces: [&[u8]; 3] = [name.bytes(), b" ", receipt.recipient_bytes()];
-    let value = joined(alloc, &pieces)?;
-    Ok(value)
+    joined(alloc, &pieces)
 }
 
 /// Who gets a receipt.

@@ -89,6 +89,5 @@ impl Input {
 fn copied(alloc: Global, text: &[u8]) -> Result<Vec<u8>, NoMemory>
     ensures { IfOk result (λ copy. copy.items ≡ text.now) }
 {
-    let copy = Vec::from_slice(alloc, text)?;
-    Ok(copy)
+    Vec::from_slice(alloc, text)
 }

@@ -203,8 +203,7 @@ fn refusal_of(
             Ok(Refusal::NotEmpty(text))
         }
         StartFault::NotFit(number, why) => {
-            let refusal = unfit(alloc, directory, number, why, holds)?;
-            Ok(refusal)
+            unfit(alloc, directory, number, why, holds)
         }
         StartFault::DiskFault(_) => Ok(Refusal::StartFault),
         StartFault::NoMemory => Ok(Refusal::NoMemory),

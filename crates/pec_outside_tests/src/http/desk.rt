@@ -155,8 +155,7 @@ impl Desk for OneAccountDesk {
                 Err(ProviderFault::DiskFault)
             }
             _ => {
-                let bytes = Vec::from_slice(alloc, b"From: a@b\r\n\r\nSalve")?;
-                Ok(bytes)
+                Vec::from_slice(alloc, b"From: a@b\r\n\r\nSalve")
             }
         }
     }
@@ -170,8 +169,7 @@ fn shown(alloc: Global, mood: Mood, text: &[u8]) -> Result<Vec<u8>, ProviderFaul
         Mood::Down => Err(ProviderFault::Down),
         Mood::NoMemory => Err(ProviderFault::NoMemory),
         _ => {
-            let bytes = Vec::from_slice(alloc, text)?;
-            Ok(bytes)
+            Vec::from_slice(alloc, text)
         }
     }
 }
