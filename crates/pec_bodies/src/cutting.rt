@@ -30,8 +30,7 @@ pub(crate) fn cut<'a>(
     let Some(start) = opening(body, boundary) else {
         return Err(BodyFault::NoOpening);
     };
-    let wholes = wholes_behind(alloc, body, boundary, start)?;
-    Ok(wholes)
+    wholes_behind(alloc, body, boundary, start)
 }
 
 /// The place behind the first delimiter.

@@ -32,8 +32,7 @@ pub fn brief(alloc: Global, original: &[u8]) -> Result<Vec<u8>, NoMemory>
     ensures exact { IfOk result (λ brief. brief.items ≡ brief_of original.now) }
 {
     a_message_has_one_brief_form();
-    let brief = brief_bytes(alloc, original)?;
-    Ok(brief)
+    brief_bytes(alloc, original)
 }
 
 #[tactic(auto, unfolding(crate::specs::BriefReading::brief_of))]
@@ -55,10 +54,7 @@ fn short(alloc: Global, original: &[u8]) -> Result<Option<Vec<u8>>, NoMemory>
     ensures { IfOk result (λ short. option_map (λ text. text.items) short ≡ short_of original.now) }
 {
     match Head::read(alloc, original) {
-        Ok((head, place)) => {
-            let short = short_behind(alloc, original, &head, place)?;
-            Ok(short)
-        }
+        Ok((head, place)) => short_behind(alloc, original, &head, place),
         Err(HeadFault::NoMemory) => Err(NoMemory),
         Err(_) => Ok(None),
     }
@@ -75,10 +71,7 @@ fn short_behind(
 {
     parts_stand_in_order();
     match Parts::read(alloc, head, &original[place..]) {
-        Ok(parts) => {
-            let short = shorten(alloc, original, place, &parts)?;
-            Ok(short)
-        }
+        Ok(parts) => shorten(alloc, original, place, &parts),
         Err(BodyFault::NoMemory) => Err(NoMemory),
         Err(_) => Ok(None),
     }

@@ -32,7 +32,6 @@ pub struct CertRecipient {
 }
 
 /// What a certification text says: the data of a message, of its provider and of the event.
-#[derive(Drop)]
 pub struct CertData {
     pub kind: CertKind,
     pub error: CertError,
@@ -48,4 +47,26 @@ pub struct CertData {
     pub delivered: Option<Address>,
     pub received: Items<Address>,
     pub detail: Option<Text>,
+}
+
+// Written out, so that to drop one is one call.
+impl Drop for CertData {
+    fn drop(self) {
+        let CertData {
+            kind: _,
+            error: _,
+            sender: _,
+            recipients: _,
+            reply: _,
+            subject: _,
+            provider: _,
+            stamp: _,
+            id: _,
+            reference: _,
+            wish: _,
+            delivered: _,
+            received: _,
+            detail: _,
+        } = self;
+    }
 }

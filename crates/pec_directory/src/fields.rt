@@ -109,8 +109,7 @@ fn read_domain(alloc: Global, value: &Value) -> Result<Option<Text>, NoMemory>
     let Some(text) = value.as_str() else {
         return Ok(None);
     };
-    let domain = domain_in(alloc, text.as_bytes())?;
-    Ok(domain)
+    domain_in(alloc, text.as_bytes())
 }
 
 /// The domain that a text is, in lower case.
@@ -181,8 +180,7 @@ pub(crate) fn rule_at(alloc: Global, provider: &Value) -> Result<Option<Text>, N
     let Some(text) = text_at("zone", provider) else {
         return Ok(None);
     };
-    let rule = visible_text(alloc, 128, text.as_bytes())?;
-    Ok(rule)
+    visible_text(alloc, 128, text.as_bytes())
 }
 
 /// The key of an account: 1 to 64 bytes from 0x21 to 0x7e.
@@ -193,8 +191,7 @@ pub(crate) fn key_at(alloc: Global, account: &Value) -> Result<Option<Text>, NoM
     let Some(text) = text_at("key", account) else {
         return Ok(None);
     };
-    let key = visible_text(alloc, 64, text.as_bytes())?;
-    Ok(key)
+    visible_text(alloc, 64, text.as_bytes())
 }
 
 /// A text of 1 to so many bytes from 0x21 to 0x7e.

@@ -29,8 +29,7 @@ pub(crate) fn read_text(alloc: Global, text: &str) -> Result<Directory, Director
         Err(fault) if fault.is_memory() => return Err(DirectoryFault::NoMemory),
         Err(_) => return Err(DirectoryFault::NotToml),
     };
-    let directory = read_table(alloc, &table)?;
-    Ok(directory)
+    read_table(alloc, &table)
 }
 
 /// What the table of a directory says.
@@ -47,8 +46,7 @@ pub(crate) fn read_table(alloc: Global, whole: &Table) -> Result<Directory, Dire
     if are_many(values) {
         return Err(DirectoryFault::TooMany);
     }
-    let directory = read_providers(alloc, values)?;
-    Ok(directory)
+    read_providers(alloc, values)
 }
 
 /// The tables of the providers.

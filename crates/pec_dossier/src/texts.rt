@@ -52,8 +52,7 @@ fn add_genuine(
     let page = page
         .word(name_of(directory, report.by))?
         .number(report.moment.seconds())?;
-    let page = page.word(recipient_word(&report.recipient))?.end()?;
-    Ok(page)
+    page.word(recipient_word(&report.recipient))?.end()
 }
 
 fn add_certificate(alloc: Global, page: Page, cert: &Option<Text8>) -> Result<Page, NoMemory>
@@ -63,8 +62,7 @@ fn add_certificate(alloc: Global, page: Page, cert: &Option<Text8>) -> Result<Pa
         return Ok(page);
     };
     let encoded = STANDARD.encode(alloc, cert.bytes())?;
-    let page = page.begin(b"cert")?.word(encoded.as_bytes())?.end()?;
-    Ok(page)
+    page.begin(b"cert")?.word(encoded.as_bytes())?.end()
 }
 
 /// `refused N FAULT`; want of memory has no line, and comes back as itself.
@@ -85,8 +83,7 @@ fn add_refused(page: Page, number: u64, fault: CheckFault) -> Result<Page, NoMem
     ensures reason { IfOk result (λ new. fault ≢ checks.Letter faults.NoMemory) }
     ensures text { IfOk result (λ new. new.text.items ≡ line_after page.text.items (refused_words number fault)) }
 {
-    let page = add_fault(page.begin(b"refused")?.number(number)?, fault)?;
-    Ok(page)
+    add_fault(page.begin(b"refused")?.number(number)?, fault)
 }
 
 /// Adds a fault by its words, and ends the line.
@@ -101,8 +98,7 @@ fn add_fault(page: Page, fault: CheckFault) -> Result<Page, NoMemory>
         CheckFault::Letter(LetterFault::Cert) => add_word(page, b"cert"),
         CheckFault::Letter(LetterFault::NotThis) => add_word(page, b"not-this"),
         CheckFault::Letter(LetterFault::Disagree(what)) => {
-            let page = page.word(b"disagree")?.word(disputed_word(what))?.end()?;
-            Ok(page)
+            page.word(b"disagree")?.word(disputed_word(what))?.end()
         }
         CheckFault::Letter(LetterFault::NoMemory) => Err(NoMemory),
         CheckFault::WrongProvider(_) => add_word(page, b"wrong-provider"),
@@ -112,8 +108,7 @@ fn add_fault(page: Page, fault: CheckFault) -> Result<Page, NoMemory>
 fn add_word(page: Page, word: &[u8]) -> Result<Page, NoMemory>
     ensures { IfOk result (λ new. new.text.items ≡ rest_after page.text.items (word.now ∷ [])) }
 {
-    let page = page.word(word)?.end()?;
-    Ok(page)
+    page.word(word)?.end()
 }
 
 /// Adds `proof ID RECIPIENT DECISION` or `conflict ID RECIPIENT`.
@@ -129,13 +124,11 @@ pub(crate) fn add_finding(
     match finding.decision {
         Some(decision) => {
             let page = add_pair(alloc, page.begin(b"proof")?, directory, finding)?;
-            let page = page.word(decision.word())?.end()?;
-            Ok(page)
+            page.word(decision.word())?.end()
         }
         None => {
             let page = add_pair(alloc, page.begin(b"conflict")?, directory, finding)?;
-            let page = page.end()?;
-            Ok(page)
+            page.end()
         }
     }
 }
@@ -152,8 +145,7 @@ fn add_pair(
         ++ codes " " ++ finding.now.recipient) }
 {
     let page = add_id(alloc, page, directory, finding.id)?;
-    let page = page.word(finding.recipient.bytes())?;
-    Ok(page)
+    page.word(finding.recipient.bytes())
 }
 
 /// Adds `check GENUINE REFUSED`.
@@ -161,12 +153,10 @@ pub(crate) fn add_counts(page: Page, genuine: u64, refused: u64) -> Result<Page,
     ensures { IfOk result (λ new. new.text.items
         ≡ line_after page.text.items (codes "check" ∷ decimal genuine ∷ decimal refused ∷ [])) }
 {
-    let page = page
-        .begin(b"check")?
+    page.begin(b"check")?
         .number(genuine)?
         .number(refused)?
-        .end()?;
-    Ok(page)
+        .end()
 }
 
 /// `too-long line NUMBER`
@@ -182,12 +172,10 @@ fn add_long_line(page: Page, number: u64) -> Result<Page, NoMemory>
     ensures { IfOk result (λ new. new.text.items
         ≡ line_after page.text.items (codes "too-long" ∷ codes "line" ∷ decimal number ∷ [])) }
 {
-    let page = page
-        .begin(b"too-long")?
+    page.begin(b"too-long")?
         .word(b"line")?
         .number(number)?
-        .end()?;
-    Ok(page)
+        .end()
 }
 
 // ---- words
@@ -198,8 +186,7 @@ fn add_id(alloc: Global, page: Page, directory: &Directory, id: MsgId) -> Result
     ensures { IfOk result (λ new. new.text.items ≡ page.text.items ++ codes " " ++ id_of (providers_of directory.now) id) }
 {
     let text = id_text(alloc, directory.first_domain(id.provider), id.number)?;
-    let page = page.word(&text)?;
-    Ok(page)
+    page.word(&text)
 }
 
 /// The name of the provider of a number; nothing where there is no such provider.

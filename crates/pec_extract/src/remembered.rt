@@ -55,10 +55,16 @@ impl Remembered {
 }
 
 /// A message that was taken, and the facts of its original.
-#[derive(Drop)]
 struct Original {
     id: MsgId,
     facts: Facts,
+}
+
+// Written out, so that to drop one is one call.
+impl Drop for Original {
+    fn drop(self) {
+        let Original { id: _, facts: _ } = self;
+    }
 }
 
 impl Model for Original {

@@ -7,8 +7,7 @@ use std::alloc::{AllocError, Global};
 pub fn journal_path(alloc: Global, folder: &str, provider: u32) -> Result<String, AllocError>
     ensures { IfOk result (λ path. string_bytes path ≡ path_in folder.now provider) }
 {
-    let path = format!(in alloc; "{folder}/pec-{provider}.journal")?;
-    Ok(path)
+    format!(in alloc; "{folder}/pec-{provider}.journal")
 }
 
 /// Two providers have two journals in a folder.

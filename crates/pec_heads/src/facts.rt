@@ -77,8 +77,7 @@ fn copies(alloc: Global, fields: &Fields) -> Result<Option<Vec<Address>>, NoMemo
     if count(fields, b"Cc".as_slice()) == 0 {
         return Ok(Some(Vec::new(alloc)));
     }
-    let found = list(alloc, fields, b"Cc".as_slice())?;
-    Ok(found)
+    list(alloc, fields, b"Cc".as_slice())
 }
 
 fn wish(fields: &Fields) -> Wish
@@ -103,8 +102,7 @@ pub(crate) fn text(alloc: Global, fields: &Fields, name: &[u8]) -> Result<Option
     let Some(value) = value(fields, name, 0) else {
         return Ok(None);
     };
-    let text = short_text(alloc, value)?;
-    Ok(text)
+    short_text(alloc, value)
 }
 
 /// A value made printable, cut to 900 bytes and trimmed, where anything is left.

@@ -187,16 +187,14 @@ impl Head {
     pub fn subject(&self, alloc: Global) -> Result<Option<Text>, NoMemory>
         ensures { IfOk result (λ found. found ≡ text_of (codes "Subject") self.now) }
     {
-        let subject = text(alloc, &self.fields, b"Subject")?;
-        Ok(subject)
+        text(alloc, &self.fields, b"Subject")
     }
 
     /// As `subject`, for the first `Message-ID`: the name that the sender gave the message.
     pub fn reference(&self, alloc: Global) -> Result<Option<Text>, NoMemory>
         ensures { IfOk result (λ found. found ≡ text_of (codes "Message-ID") self.now) }
     {
-        let reference = text(alloc, &self.fields, b"Message-ID")?;
-        Ok(reference)
+        text(alloc, &self.fields, b"Message-ID")
     }
 }
 

@@ -28,12 +28,10 @@ pub(crate) fn list_named(
     ensures { Gives wrong.NoMemory (λ v. v.items) result (list_of (joined_values name.now (fields_shown fields.now))) }
 {
     if let Some(value) = only_value(fields, name) {
-        let addresses = read_list(alloc, value)?;
-        return Ok(addresses);
+        return read_list(alloc, value);
     }
     let text = joined(alloc, fields, name)?;
-    let addresses = read_list(alloc, text.as_slice())?;
-    Ok(addresses)
+    read_list(alloc, text.as_slice())
 }
 
 /// The addresses of a list.

@@ -55,8 +55,7 @@ fn read_line(line: &[u8], place: usize, first: bool) -> Result<Line<'_>, HeadFau
     if let Some(at) = control(line) {
         return Err(HeadFault::BareControl(place + at));
     }
-    let role = read_role(line, place, first)?;
-    Ok(role)
+    read_role(line, place, first)
 }
 
 /// What a line does that isn't too long and has no control byte.

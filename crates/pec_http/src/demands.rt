@@ -47,8 +47,7 @@ pub(crate) fn read_demand<K: Desk>(
     let Some(head) = Head::read(alloc, text)? else {
         return Err(Stop::BadHead);
     };
-    let demand = head_demand(alloc, patterns, desk, &head)?;
-    Ok(demand)
+    head_demand(alloc, patterns, desk, &head)
 }
 
 #[tactic(auto, unfolding(crate::specs::Asking::demand_of))]

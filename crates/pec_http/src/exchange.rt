@@ -85,10 +85,7 @@ fn see_item<K: Desk>(
     let mut line = Vec::with_capacity(alloc, BODY_ROOM)?;
     let mut text = Vec::with_capacity(alloc, HEAD_ROOM + BODY_ROOM)?;
     match desk.item(alloc, address, place) {
-        Ok(bytes) => {
-            let reply = composed(alloc, Status::Ok, Kind::Message, &bytes)?;
-            Ok(reply)
-        }
+        Ok(bytes) => composed(alloc, Status::Ok, Kind::Message, &bytes),
         Err(fault) => {
             let status = put_fault(&mut line, fault);
             put_reply(&mut text, status, Kind::Plain, &line);

@@ -93,8 +93,7 @@ fn account_in(alloc: Global, segment: &[u8]) -> Result<Option<Address>, NoMemory
     ensures { IfOk result (λ found. found ≡ account_in segment.now) }
 {
     let bytes = signs_read(alloc, segment)?;
-    let address = Address::find(alloc, &bytes)?;
-    Ok(address)
+    Address::find(alloc, &bytes)
 }
 
 fn signs_read(alloc: Global, text: &[u8]) -> Result<Vec<u8>, NoMemory>

@@ -48,11 +48,9 @@ pub fn open_directory(alloc: Global, bytes: &[u8]) -> Result<Opened, NoMemory>
     ensures { IfOk result (λ opened. opened_shown opened ≡ directory_in bytes.now) }
 {
     if is_ldif(bytes) {
-        let opened = open_ldif(alloc, bytes)?;
-        return Ok(opened);
+        return open_ldif(alloc, bytes);
     }
-    let opened = open_toml(alloc, bytes)?;
-    Ok(opened)
+    open_toml(alloc, bytes)
 }
 
 fn open_ldif(alloc: Global, bytes: &[u8]) -> Result<Opened, NoMemory>

@@ -24,8 +24,7 @@ fn add_refused(page: Page, why: LdifRefused) -> Result<Page, NoMemory>
     ensures { IfOk result (λ new. new.text.items ≡ line_after page.text.items (refused_directory_words why)) }
 {
     let page = page.begin(b"refused")?.word(b"directory")?;
-    let page = add_why(page, why)?;
-    Ok(page)
+    add_why(page, why)
 }
 
 /// Adds why a directory is refused, and ends the line.
@@ -58,8 +57,7 @@ fn add_place(page: Page, word: &[u8], place: usize) -> Result<Page, NoMemory>
     ensures { IfOk result (λ new. new.text.items ≡ rest_after page.text.items (place_words word.now place)) }
 {
     let page = page.word(b"ldif")?.word(word)?;
-    let page = page.number(place as u64)?.end()?;
-    Ok(page)
+    page.number(place as u64)?.end()
 }
 
 /// Adds a fault by its word and its numbers, and ends the line.
@@ -91,16 +89,14 @@ fn add_fault(page: Page, fault: DirectoryFault) -> Result<Page, NoMemory>
 fn add_word(page: Page, word: &[u8]) -> Result<Page, NoMemory>
     ensures { IfOk result (λ new. new.text.items ≡ rest_after page.text.items (word.now ∷ [])) }
 {
-    let page = page.word(word)?.end()?;
-    Ok(page)
+    page.word(word)?.end()
 }
 
 /// `WORD P`
 fn add_provider(page: Page, word: &[u8], provider: u32) -> Result<Page, NoMemory>
     ensures { IfOk result (λ new. new.text.items ≡ rest_after page.text.items (provider_words word.now provider)) }
 {
-    let page = page.word(word)?.number(u64::from(provider))?.end()?;
-    Ok(page)
+    page.word(word)?.number(u64::from(provider))?.end()
 }
 
 /// `WORD P I`
@@ -109,8 +105,7 @@ fn add_account(page: Page, word: &[u8], provider: u32, account: u32) -> Result<P
         ≡ rest_after page.text.items (account_words word.now provider account)) }
 {
     let page = page.word(word)?.number(u64::from(provider))?;
-    let page = page.number(u64::from(account))?.end()?;
-    Ok(page)
+    page.number(u64::from(account))?.end()
 }
 
 /// `bad-field P FIELD`
@@ -118,8 +113,7 @@ fn add_field(page: Page, provider: u32, field: Field) -> Result<Page, NoMemory>
     ensures { IfOk result (λ new. new.text.items ≡ rest_after page.text.items (field_words provider field)) }
 {
     let page = page.word(b"bad-field")?.number(u64::from(provider))?;
-    let page = page.word(field_word(field))?.end()?;
-    Ok(page)
+    page.word(field_word(field))?.end()
 }
 
 /// A field by its name in the TOML.

@@ -77,8 +77,7 @@ fn read_file<D: Disk>(alloc: Global, disk: &mut D) -> Result<(Vec<Place>, u64), 
         return Err(OpenFault::NotAJournal(0));
     }
     read_header(disk)?;
-    let read = read_places(alloc, disk, size)?;
-    Ok(read)
+    read_places(alloc, disk, size)
 }
 
 fn read_header<D: Disk>(disk: &mut D) -> Result<(), OpenFault>

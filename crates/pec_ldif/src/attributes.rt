@@ -97,11 +97,9 @@ fn read_value(alloc: Global, place: usize, rest: &[u8]) -> Result<String, LdifFa
     ensures { Gives faults.NoMemory string_bytes result (value_of place rest.now) }
 {
     if begins_with(rest, b':') {
-        let value = read_coded(alloc, place, skip_spaces(behind_first(rest)))?;
-        return Ok(value);
+        return read_coded(alloc, place, skip_spaces(behind_first(rest)));
     }
-    let value = read_plain(alloc, place, skip_spaces(rest))?;
-    Ok(value)
+    read_plain(alloc, place, skip_spaces(rest))
 }
 
 #[tactic(auto, unfolding(crate::specs::AttributesReading::plain_of))]

@@ -39,8 +39,7 @@ fn read_text(alloc: Global, text: &[u8]) -> Result<Vec<Entry>, LdifFault>
 {
     let lines = read_lines(alloc, text)?;
     let behind = behind_version(text.len(), lines.as_slice())?;
-    let entries = read_entries(alloc, behind)?;
-    Ok(entries)
+    read_entries(alloc, behind)
 }
 
 /// The lines behind the version, of a text with so many bytes.

@@ -101,8 +101,7 @@ fn read_entry(
         place,
         attributes: Items::of(attributes),
     };
-    let entry = tested(draft, entry)?;
-    Ok(entry)
+    tested(draft, entry)
 }
 
 fn read_attributes(alloc: Global, lines: &[Line]) -> Result<Vec<Attribute>, LdifFault>

@@ -55,8 +55,7 @@ pub fn id_named(
     if !is_first(&letter.head, field, wanted.as_slice()) {
         return Ok(None);
     }
-    let id = directory.id_of(alloc, name)?;
-    Ok(id)
+    directory.id_of(alloc, name)
 }
 
 /// Whether the provider that sealed the letter is the one that it certifies as its issuer. It takes no memory.

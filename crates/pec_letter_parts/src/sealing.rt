@@ -41,8 +41,7 @@ pub fn compose_letter<S: Sealer>(
     ensures exact { IfOk result (λ text. letter_text (S.seals sealer.now) provider (heading_shown heading.now) (parts_of (contents_shown contents.now)) ≡ Some text.items) }
 {
     a_letter_has_one_text();
-    let text = compose_text(alloc, sealer, provider, heading, contents)?;
-    Ok(text)
+    compose_text(alloc, sealer, provider, heading, contents)
 }
 
 fn compose_text<S: Sealer>(

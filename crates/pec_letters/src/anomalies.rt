@@ -35,8 +35,7 @@ pub fn compose_anomaly<S: Sealer>(
     ensures exact { IfOk result (λ text. anomaly_text (S.seals sealer.now) directory.now provider number moment message.now ≡ Some text.items) }
 {
     a_message_has_one_anomaly();
-    let text = compose_text(alloc, sealer, directory, provider, number, moment, message)?;
-    Ok(text)
+    compose_text(alloc, sealer, directory, provider, number, moment, message)
 }
 
 fn compose_text<S: Sealer>(

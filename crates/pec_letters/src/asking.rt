@@ -144,8 +144,7 @@ fn addresses_in(alloc: Global, head: &Head, name: &[u8]) -> Result<Option<Vec<Ad
     if head.count(name) == 0 {
         return Ok(Some(Vec::new(alloc)));
     }
-    let found = listed(alloc, head, name)?;
-    Ok(found)
+    listed(alloc, head, name)
 }
 
 fn listed(alloc: Global, head: &Head, name: &[u8]) -> Result<Option<Vec<Address>>, NoMemory>

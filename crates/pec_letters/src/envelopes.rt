@@ -105,7 +105,6 @@ fn compose_text<S: Sealer>(
 const PHRASE: &[u8] = b"Messaggio di posta certificata; l'originale e' allegato.";
 
 /// What is composed for an envelope's head and parts.
-#[derive(Drop)]
 struct Words {
     name: Text,
     reference: Option<Text>,
@@ -113,6 +112,20 @@ struct Words {
     subject: Vec<u8>,
     text: Vec<u8>,
     certificate: Vec<u8>,
+}
+
+// Written out, so that to drop one is one call.
+impl Drop for Words {
+    fn drop(self) {
+        let Words {
+            name: _,
+            reference: _,
+            from: _,
+            subject: _,
+            text: _,
+            certificate: _,
+        } = self;
+    }
 }
 
 impl Words {
@@ -215,8 +228,7 @@ fn compose_with<'a, S: Sealer>(
         message,
         certificate,
     };
-    let letter = compose_letter(alloc, sealer, provider, heading, &contents)?;
-    Ok(letter)
+    compose_letter(alloc, sealer, provider, heading, &contents)
 }
 
 /// Who writes: the address of the provider of this domain, on behalf of the sender.

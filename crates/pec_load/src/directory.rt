@@ -87,8 +87,7 @@ fn account_text(alloc: Global, name: &[u8], letter: &[u8], number: u64) -> Resul
 fn put(page: Page, text: &[u8], word: &[u8]) -> Result<Page, NoMemory>
     ensures { IfOk result (λ new. new.text.items ≡ page.text.items ++ text.now ++ word.now) }
 {
-    let page = page.begin(text)?.begin(word)?;
-    Ok(page)
+    page.begin(text)?.begin(word)
 }
 
 /// A text with a number in decimal behind it.
@@ -97,6 +96,5 @@ pub(crate) fn with_number(page: Page, number: u64) -> Result<Page, NoMemory>
 {
     let mut buffer = itoa::Buffer::new();
     let digits = buffer.format(number);
-    let page = page.begin(digits.as_bytes())?;
-    Ok(page)
+    page.begin(digits.as_bytes())
 }

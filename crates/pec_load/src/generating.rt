@@ -57,8 +57,7 @@ fn add_submission(alloc: Global, number: u64) -> Result<Page, NoMemory>
     let message = STANDARD.encode(alloc, &message(alloc, number, &sender, &recipient)?)?;
     let page = Page::new(alloc).begin(b"submit")?.word(b"alfa")?;
     let page = page.number(FIRST_MOMENT + number)?.word(&sender)?;
-    let page = page.word(&recipient)?.word(message.as_bytes())?.end()?;
-    Ok(page)
+    page.word(&recipient)?.word(message.as_bytes())?.end()
 }
 
 /// Who hands in the message of a number.
@@ -111,8 +110,7 @@ fn add_end(page: Page, count: u64, number: u64) -> Result<Page, NoMemory>
     if number % BATCH != BATCH - 1 && number + 1 != count {
         return Ok(page);
     }
-    let page = add_end_lines(page, end_moment(count, number))?;
-    Ok(page)
+    add_end_lines(page, end_moment(count, number))
 }
 
 /// When the batch ends.
@@ -133,14 +131,12 @@ fn add_end_lines(page: Page, moment: u64) -> Result<Page, NoMemory>
 {
     let page = page.begin(b"tick")?.word(b"alfa")?.number(moment)?.end()?;
     let page = add_round(add_round(page, moment)?, moment)?;
-    let page = add_round(add_round(page, moment)?, moment)?;
-    Ok(page)
+    add_round(add_round(page, moment)?, moment)
 }
 
 /// Adds a round.
 fn add_round(page: Page, moment: u64) -> Result<Page, NoMemory>
     ensures { IfOk result (λ new. new.text.items ≡ line_after page.text.items (round_row moment)) }
 {
-    let page = page.begin(b"round")?.number(moment)?.end()?;
-    Ok(page)
+    page.begin(b"round")?.number(moment)?.end()
 }

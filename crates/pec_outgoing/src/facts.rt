@@ -23,8 +23,7 @@ fn facts_in(alloc: Global, message: &[u8]) -> Result<Option<Facts>, NoMemory>
     let Some(head) = read_head(alloc, message)? else {
         return Ok(None);
     };
-    let facts = head.facts(alloc)?;
-    Ok(facts)
+    head.facts(alloc)
 }
 
 /// The head at the front of a message, where there is one.

@@ -163,8 +163,7 @@ fn receipt_with<S: Sealer>(
         facts: message.facts.copy(desk.alloc)?,
         recipient: copied(desk.alloc, recipient)?,
     };
-    let text = receipt_text(desk, &receipt, original)?;
-    Ok(text)
+    receipt_text(desk, &receipt, original)
 }
 
 fn copied(alloc: Global, address: &Option<Address>) -> Result<Option<Address>, NoMemory>

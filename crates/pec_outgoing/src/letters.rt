@@ -25,10 +25,16 @@ use pec_types::{Address, Decision, Kind, MsgId, NoMemory, Refusal};
 use std::marker::Model;
 
 /// The path and the text of a letter. Contracts see both.
-#[derive(Drop)]
 pub(crate) struct Outgoing {
     path: Vec<Address>,
     text: Vec<u8>,
+}
+
+// Written out, so that to drop one is one call.
+impl Drop for Outgoing {
+    fn drop(self) {
+        let Outgoing { path: _, text: _ } = self;
+    }
 }
 
 impl Model for Outgoing {
@@ -165,8 +171,7 @@ fn charge_with<S: Sealer>(
         recipient: None,
     };
     let text = receipt_text(desk, &receipt, bytes)?;
-    let letter = to_provider(desk, id.provider, text)?;
-    Ok(letter)
+    to_provider(desk, id.provider, text)
 }
 
 /// The letter on a pair that was decided here: to the message's sender, or where it is a virus to the sender's
@@ -212,8 +217,7 @@ fn outcome_with<S: Sealer>(
         recipient: Some(recipient.copy(desk.alloc)?),
     };
     let text = receipt_text(desk, &receipt, bytes)?;
-    let letter = to_addressee(desk, id, fate.decision(), &receipt.facts.sender, text)?;
-    Ok(letter)
+    to_addressee(desk, id, fate.decision(), &receipt.facts.sender, text)
 }
 
 /// The acknowledgement of an outcome that is known here, to the recipient's provider.
@@ -260,8 +264,7 @@ fn acknowledgement_with<S: Sealer>(
         recipient: Some(recipient.copy(desk.alloc)?),
     };
     let text = receipt_text(desk, &receipt, original)?;
-    let letter = to_provider(desk, home, text)?;
-    Ok(letter)
+    to_provider(desk, home, text)
 }
 
 /// A letter of this text along the path of an outcome.

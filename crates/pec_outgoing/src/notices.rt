@@ -81,8 +81,7 @@ fn text_of(alloc: Global, address: &Address) -> Result<Text, NoMemory>
     ensures { IfOk result (λ text. text ≡ address.now) }
 {
     printable_is_said_of_each_byte();
-    let text = Text::of_printable(alloc, address.bytes())?;
-    Ok(text)
+    Text::of_printable(alloc, address.bytes())
 }
 
 fn subject(alloc: Global, head: &Option<Head>) -> Result<Option<Text>, NoMemory>
@@ -91,8 +90,7 @@ fn subject(alloc: Global, head: &Option<Head>) -> Result<Option<Text>, NoMemory>
     let Some(head) = head else {
         return Ok(None);
     };
-    let subject = head.subject(alloc)?;
-    Ok(subject)
+    head.subject(alloc)
 }
 
 fn reference(alloc: Global, head: &Option<Head>) -> Result<Option<Text>, NoMemory>
@@ -101,8 +99,7 @@ fn reference(alloc: Global, head: &Option<Head>) -> Result<Option<Text>, NoMemor
     let Some(head) = head else {
         return Ok(None);
     };
-    let reference = head.reference(alloc)?;
-    Ok(reference)
+    head.reference(alloc)
 }
 
 /// The addresses of a path as primary recipients, each once.

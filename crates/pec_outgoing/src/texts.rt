@@ -38,7 +38,7 @@ pub(crate) fn envelope_text<S: Sealer>(
         return Ok(Vec::new(desk.alloc));
     }
     facts_are_those_of_a_head();
-    let text = compose_envelope(
+    compose_envelope(
         desk.alloc,
         desk.house.sealer,
         desk.house.directory,
@@ -46,8 +46,7 @@ pub(crate) fn envelope_text<S: Sealer>(
         moment,
         facts,
         original,
-    )?;
-    Ok(text)
+    )
 }
 
 /// The facts of a message are those of the head with which it begins.
@@ -72,8 +71,7 @@ pub(crate) fn receipt_text<S: Sealer>(
     ensures within { IfOk result (λ text. 0 < length text.items
         → receipt.now.id.provider < length desk.now.house.now.directory.now) }
 {
-    let text = given_text(desk, receipt, original)?;
-    Ok(text)
+    given_text(desk, receipt, original)
 }
 
 /// A receipt or a notice, where it may be given; otherwise nothing. Where there is a text, so is the message's
@@ -92,14 +90,13 @@ pub(crate) fn given_text<S: Sealer>(
     if !can_be_given(desk.house.directory, receipt) {
         return Ok(Vec::new(desk.alloc));
     }
-    let text = compose(
+    compose(
         desk.alloc,
         desk.house.sealer,
         desk.house.directory,
         receipt,
         original,
-    )?;
-    Ok(text)
+    )
 }
 
 fn can_be_given(directory: &Directory, receipt: &Receipt) -> bool
@@ -127,7 +124,7 @@ pub(crate) fn anomaly_text<S: Sealer>(
     if provider >= desk.house.directory.count() {
         return Ok(Vec::new(desk.alloc));
     }
-    let text = compose_anomaly(
+    compose_anomaly(
         desk.alloc,
         desk.house.sealer,
         desk.house.directory,
@@ -135,6 +132,5 @@ pub(crate) fn anomaly_text<S: Sealer>(
         entry,
         moment,
         message,
-    )?;
-    Ok(text)
+    )
 }

@@ -69,20 +69,16 @@ fn restart_text(
 {
     match outcome {
         Ok(entries) => {
-            let text = answer_text(alloc, &Answer::Restarted(entries))?;
-            return Ok(text);
+            return answer_text(alloc, &Answer::Restarted(entries));
         }
         Err(RestartFault::Up) => {
-            let text = answer_text(alloc, &Answer::Up)?;
-            return Ok(text);
+            return answer_text(alloc, &Answer::Up);
         }
         Err(RestartFault::DiskFault) => {
-            let text = fault_text(alloc, directory, &ProviderFault::DiskFault)?;
-            return Ok(text);
+            return fault_text(alloc, directory, &ProviderFault::DiskFault);
         }
         Err(RestartFault::NotFit(why)) => {
-            let text = answer_text(alloc, &Answer::BadJournal(unfit_told(why)))?;
-            return Ok(text);
+            return answer_text(alloc, &Answer::BadJournal(unfit_told(why)));
         }
         Err(RestartFault::NoMemory) => return Err(NoMemory),
     }

@@ -110,16 +110,13 @@ fn link_text(
 {
     match outcome {
         Ok(()) => {
-            let text = answer_text(alloc, &done)?;
-            return Ok(text);
+            return answer_text(alloc, &done);
         }
         Err(LinkFault::NoFrame) => {
-            let text = answer_text(alloc, &Answer::NoFrame)?;
-            return Ok(text);
+            return answer_text(alloc, &Answer::NoFrame);
         }
         Err(LinkFault::Full) => {
-            let text = answer_text(alloc, &Answer::LinkFull)?;
-            return Ok(text);
+            return answer_text(alloc, &Answer::LinkFull);
         }
         Err(LinkFault::NoMemory) => return Err(NoMemory),
     }

@@ -16,9 +16,6 @@ pub(crate) fn refusal_text(
 {
     match fault {
         ProviderFault::NoMemory => Err(NoMemory),
-        _ => {
-            let text = fault_text(alloc, directory, &fault)?;
-            Ok(text)
-        }
+        _ => fault_text(alloc, directory, &fault),
     }
 }

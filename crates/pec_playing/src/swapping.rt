@@ -90,12 +90,10 @@ fn swap_text(alloc: Global, directory: &Directory, fault: SwapFault) -> Result<V
 {
     match fault {
         SwapFault::Down => {
-            let text = fault_text(alloc, directory, &ProviderFault::Down)?;
-            return Ok(text);
+            return fault_text(alloc, directory, &ProviderFault::Down);
         }
         SwapFault::NoSuchPlace => {
-            let text = answer_text(alloc, &Answer::NoScreen)?;
-            return Ok(text);
+            return answer_text(alloc, &Answer::NoScreen);
         }
     }
 }

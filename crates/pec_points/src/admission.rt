@@ -146,8 +146,7 @@ fn admit_message(
     let Some(head) = read_head(alloc, message)? else {
         return Ok(Admission::Not(Cause::Head));
     };
-    let admission = admit_head(alloc, limit, sender, path, message, &head)?;
-    Ok(admission)
+    admit_head(alloc, limit, sender, path, message, &head)
 }
 
 /// The head at the front of a message, where there is one.

@@ -111,8 +111,7 @@ impl<D: Disk> Provider<D> {
         stands_still(&self.chronicle);
         self.at_work(moment)?;
         let entry = Draft::plain(Entry::Ticked { moment });
-        let marks = self.append(alloc, house, entry, steps)?;
-        Ok(marks)
+        self.append(alloc, house, entry, steps)
     }
 }
 

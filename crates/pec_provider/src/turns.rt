@@ -76,8 +76,7 @@ impl<D: Disk> Provider<D> {
         stands_still(&self.chronicle);
         self.at_work(moment)?;
         let received = receive(alloc, house, &self.shelf, moment, frame)?;
-        let event = self.undertake(alloc, house, received)?;
-        Ok(event)
+        self.undertake(alloc, house, received)
     }
 
     /// Decides on the first taken pair, in order of taking and of recipients, that isn't decided (RFC 6109, section

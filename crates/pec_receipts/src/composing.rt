@@ -76,8 +76,7 @@ pub fn compose<S: Sealer>(
     ensures exact { IfOk result (λ text. receipt_text (S.seals sealer.now) directory.now receipt.now original.now ≡ Some text.items) }
 {
     a_receipt_has_one_text();
-    let text = compose_text(alloc, sealer, directory, receipt, original)?;
-    Ok(text)
+    compose_text(alloc, sealer, directory, receipt, original)
 }
 
 fn compose_text<S: Sealer>(
@@ -183,15 +182,14 @@ fn told(
         (phrase_of issuer.now receipt.now (row_shown row.now) (said_shown said.now))) }
 {
     let phrase = phrase(alloc, issuer.bytes(), receipt, row, said)?;
-    let text = told_text(
+    told_text(
         alloc,
         directory,
         receipt.id,
         stamp,
         &receipt.facts,
         phrase.as_slice(),
-    )?;
-    Ok(text)
+    )
 }
 
 /// The certification text.
@@ -257,8 +255,7 @@ fn letter_with<S: Sealer>(
         copies: &[],
         subject: names.subject.as_slice(),
     };
-    let text = compose_letter(alloc, sealer, receipt.by, &heading, contents)?;
-    Ok(text)
+    compose_letter(alloc, sealer, receipt.by, &heading, contents)
 }
 
 /// What the head says of the wish: a delivery receipt's alone does.

@@ -12,12 +12,23 @@ use pec_types::{Address, MsgId, NoMemory, seven_digits};
 use std::alloc::{AllocError, Global};
 
 /// What the head of a receipt repeats of other texts.
-#[derive(Drop)]
 pub(crate) struct Names {
     pub(crate) name: Vec<u8>,
     pub(crate) reference: Vec<u8>,
     pub(crate) from: Vec<u8>,
     pub(crate) subject: Vec<u8>,
+}
+
+// Written out, so that to drop one is one call.
+impl Drop for Names {
+    fn drop(self) {
+        let Names {
+            name: _,
+            reference: _,
+            from: _,
+            subject: _,
+        } = self;
+    }
 }
 
 impl Names {

@@ -31,8 +31,7 @@ impl<'a> Shown<'a> {
         if !said.delivers {
             return Ok(Shown::Nothing);
         }
-        let shown = Shown::wished(alloc, receipt.facts.wish, class_of(receipt), original)?;
-        Ok(shown)
+        Shown::wished(alloc, receipt.facts.wish, class_of(receipt), original)
     }
 
     /// By what was wished and the recipient's class: the whole message goes back for a primary recipient alone.

@@ -74,8 +74,7 @@ fn see<S: Sealer>(
     ensures { OrNoMemory faults.NoMemory result (view (S.seals sealer.now) (providers_of directory.now) message.now) }
 {
     let read = Headed::read(alloc, sealer, message)?;
-    let seen = see_in(alloc, directory, read)?;
-    Ok(seen)
+    see_in(alloc, directory, read)
 }
 
 /// What `read` sees of a text, where its seal was opened and its head read already.
@@ -101,12 +100,10 @@ fn see_in(
     ensures { OrNoMemory faults.NoMemory result (seen_in (providers_of directory.now) (headed_shown read.entry)) }
 {
     if let Some(value) = read.head.field(Marking::Reply.name()) {
-        let seen = acknowledged(alloc, directory, &read, value)?;
-        return Ok(seen);
+        return acknowledged(alloc, directory, &read, value);
     }
     let letter = read.letter(alloc)?;
-    let seen = seen(alloc, directory, &letter)?;
-    Ok(seen)
+    seen(alloc, directory, &letter)
 }
 
 /// What is seen of a letter: the table of faults, row by row.

@@ -6,7 +6,6 @@ use pec_types::{Address, Facts, Kind, Moment, MsgId, Recipient};
 
 /// What a receipt or a notice says: of which kind it is, which message it is about, which provider composes it, when
 /// what it says came to be, the facts of the message, and the recipient, where the kind names one.
-#[derive(Drop)]
 pub struct Receipt {
     pub kind: Kind,
     pub id: MsgId,
@@ -14,6 +13,20 @@ pub struct Receipt {
     pub moment: Moment,
     pub facts: Facts,
     pub recipient: Option<Address>,
+}
+
+// Written out, so that to drop one is one call.
+impl Drop for Receipt {
+    fn drop(self) {
+        let Receipt {
+            kind: _,
+            id: _,
+            by: _,
+            moment: _,
+            facts: _,
+            recipient: _,
+        } = self;
+    }
 }
 
 impl Receipt {

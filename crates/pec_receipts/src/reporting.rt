@@ -50,10 +50,7 @@ fn delivered_to(alloc: Global, receipt: &Receipt, about: About) -> Result<Option
     match about {
         About::Message => Ok(None),
         About::Provider => Ok(None),
-        About::Recipient => {
-            let copied = copied(alloc, &receipt.recipient)?;
-            Ok(copied)
-        }
+        About::Recipient => copied(alloc, &receipt.recipient),
     }
 }
 
@@ -81,13 +78,12 @@ fn received_by(
     match about {
         About::Message => Ok(Vec::new(alloc)),
         About::Provider => {
-            let list = addresses_at(
+            addresses_at(
                 alloc,
                 directory,
                 receipt.by,
                 receipt.facts.recipients.as_slice(),
-            )?;
-            Ok(list)
+            )
         }
         About::Recipient => Ok(Vec::new(alloc)),
     }
@@ -176,8 +172,7 @@ fn sentence(
     ensures { IfOk result (λ text. text.items ≡ concat (phrase.now ∷ named.now ∷ behind.now ∷ explained.now ∷ codes "." ∷ [])) }
 {
     let pieces: [&[u8]; 5] = [phrase, named, behind, explained, b"."];
-    let text = joined(alloc, &pieces)?;
-    Ok(text)
+    joined(alloc, &pieces)
 }
 
 /// Whom the phrase names.

@@ -2,7 +2,6 @@ use pec_types::{Address, Cause, Decision, Items, Moment, MsgId, Text8};
 
 /// What a provider writes into its journal, one entry for each thing that it did (this project's own format). Messages
 /// are those that were submitted, and the sealed envelopes and receipts that came from other providers.
-#[derive(Drop)]
 pub enum Entry {
     /// Which provider's journal this is, and the digest of the directory that it was made with.
     Start {
@@ -82,4 +81,73 @@ pub enum Entry {
         account: Address,
         place: u32,
     },
+}
+
+// Written out, so that to drop one is one call.
+impl Drop for Entry {
+    fn drop(self) {
+        match self {
+            Entry::Start {
+                provider: _,
+                digest: _,
+            } => {}
+            Entry::Accepted {
+                moment: _,
+                sender: _,
+                message: _,
+            } => {}
+            Entry::NotAccepted {
+                moment: _,
+                sender: _,
+                cause: _,
+                path: _,
+                message: _,
+            } => {}
+            Entry::Took {
+                moment: _,
+                id: _,
+                message: _,
+            } => {}
+            Entry::Decided {
+                moment: _,
+                id: _,
+                recipient: _,
+                decision: _,
+            } => {}
+            Entry::Charged {
+                moment: _,
+                id: _,
+                by: _,
+            } => {}
+            Entry::Learned {
+                moment: _,
+                id: _,
+                recipient: _,
+                decision: _,
+                decided: _,
+                message: _,
+            } => {}
+            Entry::Acked {
+                moment: _,
+                id: _,
+                recipient: _,
+            } => {}
+            Entry::Ticked { moment: _ } => {}
+            Entry::Anomaly {
+                moment: _,
+                accounts: _,
+                message: _,
+            } => {}
+            Entry::StartTwo {
+                provider: _,
+                digest: _,
+            } => {}
+            Entry::Upgraded { moment: _ } => {}
+            Entry::Archived {
+                moment: _,
+                account: _,
+                place: _,
+            } => {}
+        }
+    }
 }

@@ -139,6 +139,5 @@ fn add_digests(alloc: Global, page: Page, kept: &[u8], given: &[u8]) -> Result<P
     let kept = hex::encode(alloc, kept)?;
     let page = page.word(kept.as_bytes())?;
     let given = hex::encode(alloc, given)?;
-    let page = page.last_word(given.as_bytes())?;
-    Ok(page)
+    page.last_word(given.as_bytes())
 }

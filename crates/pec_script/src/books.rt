@@ -48,8 +48,7 @@ fn add_line(
         .moment(line.charged)?
         .moment(line.warned)?
         .moment(line.noticed)?;
-    let page = add_outcome(page, line.outcome)?;
-    Ok(page)
+    add_outcome(page, line.outcome)
 }
 
 /// Adds the outcome, and ends the line.
@@ -59,6 +58,5 @@ fn add_outcome(page: Page, outcome: Option<(Decision, Moment)>) -> Result<Page, 
     let Some((decision, moment)) = outcome else {
         return page.last_word(b"open");
     };
-    let page = page.word(decision.word())?.last_number(moment.seconds())?;
-    Ok(page)
+    page.word(decision.word())?.last_number(moment.seconds())
 }

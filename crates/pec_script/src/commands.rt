@@ -121,8 +121,7 @@ fn read_line(alloc: Global, line: &[u8], directory: &Directory) -> Result<Comman
     if count_words(rest) != verb.arguments() {
         return Err(LineFault::Arity);
     }
-    let command = read_arguments(alloc, directory, verb, rest)?;
-    Ok(command)
+    read_arguments(alloc, directory, verb, rest)
 }
 
 fn read_arguments(

@@ -73,11 +73,9 @@ fn add_line(
     let page = page
         .begin(buffer.format(place).as_bytes())?
         .word(kind_word(line.kind))?;
-    let page = page
-        .id_or_hyphen(alloc, directory, line.id)?
+    page.id_or_hyphen(alloc, directory, line.id)?
         .recipient(&line.recipient)?
-        .end()?;
-    Ok(page)
+        .end()
 }
 
 fn kind_word(kind: ItemKind) -> &'static [u8]

@@ -30,8 +30,7 @@ fn add_mark(alloc: Global, directory: &Directory, page: Page, mark: &Mark) -> Re
         return Ok(page);
     };
     let page = page.begin(word)?.id(alloc, directory, mark.id)?;
-    let page = page.last_word(mark.recipient.bytes())?;
-    Ok(page)
+    page.last_word(mark.recipient.bytes())
 }
 
 fn mark_word(due: Due) -> Option<&'static [u8]>

@@ -30,8 +30,7 @@ impl Page {
         ensures { IfOk result (λ page. page.text.items ≡ self.text.items ++ codes " " ++ id_of (providers_of directory.now) id) }
     {
         let text = id_text(alloc, directory.first_domain(id.provider), id.number)?;
-        let page = self.word(&text)?;
-        Ok(page)
+        self.word(&text)
     }
 
     /// The same, or a hyphen where there is none.
@@ -44,11 +43,9 @@ impl Page {
         ensures { IfOk result (λ page. page.text.items ≡ self.text.items ++ codes " " ++ id_word (providers_of directory.now) id) }
     {
         let Some(id) = id else {
-            let page = self.word(b"-")?;
-            return Ok(page);
+            return self.word(b"-");
         };
-        let page = self.id(alloc, directory, id)?;
-        Ok(page)
+        self.id(alloc, directory, id)
     }
 
     /// Adds a space and a moment, or a hyphen where there is none.
@@ -56,11 +53,9 @@ impl Page {
         ensures { IfOk result (λ page. page.text.items ≡ self.text.items ++ codes " " ++ moment_word moment) }
     {
         let Some(moment) = moment else {
-            let page = self.word(b"-")?;
-            return Ok(page);
+            return self.word(b"-");
         };
-        let page = self.number(moment.seconds())?;
-        Ok(page)
+        self.number(moment.seconds())
     }
 
     /// Adds a space and an address, or a hyphen where there is none.
@@ -68,10 +63,8 @@ impl Page {
         ensures { IfOk result (λ page. page.text.items ≡ self.text.items ++ codes " " ++ recipient_word recipient.now) }
     {
         let Some(address) = recipient else {
-            let page = self.word(b"-")?;
-            return Ok(page);
+            return self.word(b"-");
         };
-        let page = self.word(address.bytes())?;
-        Ok(page)
+        self.word(address.bytes())
     }
 }

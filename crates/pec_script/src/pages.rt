@@ -33,8 +33,7 @@ impl Page {
     pub fn word(self, word: &[u8]) -> Result<Page, NoMemory>
         ensures { IfOk result (λ page. page.text.items ≡ self.text.items ++ codes " " ++ word.now) }
     {
-        let page = self.begin(b" ")?.begin(word)?;
-        Ok(page)
+        self.begin(b" ")?.begin(word)
     }
 
     /// Adds a space and a number in decimal.
@@ -43,47 +42,41 @@ impl Page {
     {
         let mut buffer = itoa::Buffer::new();
         let digits = buffer.format(number);
-        let page = self.word(digits.as_bytes())?;
-        Ok(page)
+        self.word(digits.as_bytes())
     }
 
     /// Ends the line.
     pub fn end(self) -> Result<Page, NoMemory>
         ensures { IfOk result (λ page. page.text.items ≡ self.text.items ++ codes "\n") }
     {
-        let page = self.begin(b"\n")?;
-        Ok(page)
+        self.begin(b"\n")
     }
 
     /// Adds a space and a last word, and ends the line.
     pub(crate) fn last_word(self, word: &[u8]) -> Result<Page, NoMemory>
         ensures { IfOk result (λ page. page.text.items ≡ rest_after self.text.items (word.now ∷ [])) }
     {
-        let page = self.word(word)?.end()?;
-        Ok(page)
+        self.word(word)?.end()
     }
 
     /// Adds a space and a last word, which is a number in decimal, and ends the line.
     pub(crate) fn last_number(self, number: u64) -> Result<Page, NoMemory>
         ensures { IfOk result (λ page. page.text.items ≡ rest_after self.text.items (decimal number ∷ [])) }
     {
-        let page = self.number(number)?.end()?;
-        Ok(page)
+        self.number(number)?.end()
     }
 
     /// Adds a line of this word alone.
     pub fn word_line(self, word: &[u8]) -> Result<Page, NoMemory>
         ensures { IfOk result (λ page. page.text.items ≡ line_after self.text.items (word.now ∷ [])) }
     {
-        let page = self.begin(word)?.end()?;
-        Ok(page)
+        self.begin(word)?.end()
     }
 
     /// Adds a line of this word and a number.
     pub fn count_line(self, word: &[u8], count: usize) -> Result<Page, NoMemory>
         ensures { IfOk result (λ page. page.text.items ≡ line_after self.text.items (word.now ∷ decimal count ∷ [])) }
     {
-        let page = self.begin(word)?.number(count as u64)?.end()?;
-        Ok(page)
+        self.begin(word)?.number(count as u64)?.end()
     }
 }

@@ -28,8 +28,7 @@ fn add_fault(page: Page, fault: ProviderFault) -> Result<Page, NoMemory>
     let Some(word) = refusal_word(fault) else {
         return Ok(page);
     };
-    let page = add_rest(page.begin(word)?, fault)?;
-    Ok(page)
+    add_rest(page.begin(word)?, fault)
 }
 
 /// Adds the same line behind a provider's name.
@@ -43,8 +42,7 @@ pub(crate) fn add_named_fault(
     let Some(word) = refusal_word(fault) else {
         return Ok(page);
     };
-    let page = add_rest(page.begin(name)?.word(word)?, fault)?;
-    Ok(page)
+    add_rest(page.begin(name)?.word(word)?, fault)
 }
 
 /// The first word of a refusal's line.
@@ -94,8 +92,7 @@ fn add_refused(page: Page, line: u64, fault: LineFault) -> Result<Page, NoMemory
         return Ok(page);
     };
     let page = page.begin(b"refused")?.word(b"line")?.number(line)?;
-    let page = add_argument(page.word(word)?, fault)?;
-    Ok(page)
+    add_argument(page.word(word)?, fault)
 }
 
 /// The word of a line's fault.

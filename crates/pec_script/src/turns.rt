@@ -82,10 +82,8 @@ fn add_peer(
         return Ok(page);
     }
     let page = page.begin(name)?.word(b"sent")?;
-    let page = page
-        .word(name_of(directory, to))?
-        .last_number(u64::from(frames))?;
-    Ok(page)
+    page.word(name_of(directory, to))?
+        .last_number(u64::from(frames))
 }
 
 fn add_end(page: Page, name: &[u8], ended: Option<ProviderFault>) -> Result<Page, NoMemory>
@@ -94,8 +92,7 @@ fn add_end(page: Page, name: &[u8], ended: Option<ProviderFault>) -> Result<Page
     let Some(fault) = ended else {
         return Ok(page);
     };
-    let page = add_named_fault(page, name, fault)?;
-    Ok(page)
+    add_named_fault(page, name, fault)
 }
 
 /// Adds the words of an event, and ends the line.
@@ -143,8 +140,7 @@ fn add_message(
     ensures { IfOk result (λ new. new.text.items
         ≡ rest_after page.text.items (word.now ∷ id_of (providers_of directory.now) id ∷ [])) }
 {
-    let page = page.word(word)?.id(alloc, directory, id)?.end()?;
-    Ok(page)
+    page.word(word)?.id(alloc, directory, id)?.end()
 }
 
 /// Adds a word, the name of a message and a last word, and ends the line.
@@ -159,8 +155,7 @@ fn add_message_and(
     ensures { IfOk result (λ new. new.text.items
         ≡ rest_after page.text.items (word.now ∷ id_of (providers_of directory.now) id ∷ last.now ∷ [])) }
 {
-    let page = page.word(word)?.id(alloc, directory, id)?.last_word(last)?;
-    Ok(page)
+    page.word(word)?.id(alloc, directory, id)?.last_word(last)
 }
 
 /// Adds a word, the name of a message, a recipient and what was decided, and ends the line.
@@ -178,8 +173,7 @@ fn add_decision(
         (word.now ∷ id_of (providers_of directory.now) id ∷ recipient.now ∷ decision_word decision ∷ [])) }
 {
     let page = page.word(word)?.id(alloc, directory, id)?;
-    let page = page.word(recipient.bytes())?.last_word(decision.word())?;
-    Ok(page)
+    page.word(recipient.bytes())?.last_word(decision.word())
 }
 
 /// Adds the words of a letter that had arrived before, and ends the line.

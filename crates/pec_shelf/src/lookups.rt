@@ -193,8 +193,7 @@ impl Shelf {
         ensures { (trade : Trade) → IsOf directory.now trade
             → IfOk result (λ here. here.items ≡ at_home trade self.now.me names.now) }
     {
-        let here = at_home(self.alloc, directory, self.me, names)?;
-        Ok(here)
+        at_home(self.alloc, directory, self.me, names)
     }
 
     /// The id of the next message, where one more may be.

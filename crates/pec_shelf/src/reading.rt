@@ -23,8 +23,7 @@ pub(crate) fn facts_in(alloc: Global, message: &[u8]) -> Result<Option<Facts>, N
     let Some(head) = read_head(alloc, message)? else {
         return Ok(None);
     };
-    let facts = head.facts(alloc)?;
-    Ok(facts)
+    head.facts(alloc)
 }
 
 /// The head at the front of a message, where there is one.
@@ -81,8 +80,7 @@ fn copies(alloc: Global, head: &Head) -> Result<Option<Vec<Address>>, NoMemory>
     if head.count(b"Cc".as_slice()) == 0 {
         return Ok(Some(Vec::new(alloc)));
     }
-    let copies = list(alloc, head, b"Cc".as_slice())?;
-    Ok(copies)
+    list(alloc, head, b"Cc".as_slice())
 }
 
 /// The addresses of the fields of a name, where these are a list.

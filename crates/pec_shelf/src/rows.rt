@@ -13,7 +13,6 @@ use std::alloc::Global;
 use std::marker::Model;
 
 /// A message that was submitted here, accepted where it has facts, and its certified recipients in their order.
-#[derive(Drop)]
 pub struct MessageRow {
     pub(crate) moment: Moment,
     pub(crate) sender: Address,
@@ -22,6 +21,21 @@ pub struct MessageRow {
     pub(crate) path: Items<Address>,
     pub(crate) entry: u64,
     pub(crate) certified: Items<Certified>,
+}
+
+// Written out, so that to drop one is one call.
+impl Drop for MessageRow {
+    fn drop(self) {
+        let MessageRow {
+            moment: _,
+            sender: _,
+            facts: _,
+            cause: _,
+            path: _,
+            entry: _,
+            certified: _,
+        } = self;
+    }
 }
 
 impl Model for MessageRow {

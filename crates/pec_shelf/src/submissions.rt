@@ -34,8 +34,7 @@ pub(crate) fn accepted(
 {
     let id = shelf.id_behind();
     let row = accepted_row(shelf, directory, moment, sender, facts)?;
-    let ready = submitted(shelf, row, sender, Kind::Acceptance, id, moment)?;
-    Ok(ready)
+    submitted(shelf, row, sender, Kind::Acceptance, id, moment)
 }
 
 /// What a message adds: itself, and a receipt for its sender.
@@ -114,8 +113,7 @@ pub(crate) fn not_accepted(
 {
     let id = shelf.id_behind();
     let row = refused_row(shelf, moment, sender, cause, path)?;
-    let ready = submitted(shelf, row, sender, Kind::NonAcceptance(cause), id, moment)?;
-    Ok(ready)
+    submitted(shelf, row, sender, Kind::NonAcceptance(cause), id, moment)
 }
 
 fn refused_row(

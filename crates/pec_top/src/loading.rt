@@ -189,8 +189,7 @@ fn summary_text(
 fn add_count(page: Page, word: &[u8], count: u64) -> Result<Page, NoMemory>
     ensures { IfOk result (λ new. new.text.items ≡ line_after page.text.items (word.now ∷ decimal count ∷ [])) }
 {
-    let page = page.begin(word)?.number(count)?.end()?;
-    Ok(page)
+    page.begin(word)?.number(count)?.end()
 }
 
 /// `entries NAME N`
@@ -198,6 +197,5 @@ fn add_entries(page: Page, name: &[u8], count: u64) -> Result<Page, NoMemory>
     ensures { IfOk result (λ new. new.text.items
         ≡ line_after page.text.items (codes "entries" ∷ name.now ∷ decimal count ∷ [])) }
 {
-    let page = page.begin(b"entries")?.word(name)?.number(count)?.end()?;
-    Ok(page)
+    page.begin(b"entries")?.word(name)?.number(count)?.end()
 }

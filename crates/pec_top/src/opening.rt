@@ -202,10 +202,7 @@ fn refusal_of(
             let text = not_empty_text(alloc, directory, number)?;
             Ok(Refusal::NotEmpty(text))
         }
-        StartFault::NotFit(number, why) => {
-            let refusal = unfit(alloc, directory, number, why, holds)?;
-            Ok(refusal)
-        }
+        StartFault::NotFit(number, why) => unfit(alloc, directory, number, why, holds),
         StartFault::DiskFault(_) => Ok(Refusal::StartFault),
         StartFault::NoMemory => Ok(Refusal::NoMemory),
     }

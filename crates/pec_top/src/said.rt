@@ -113,10 +113,7 @@ fn refusal(alloc: Global, number: u64, fault: LineFault) -> Result<Vec<u8>, NoMe
 {
     match fault {
         LineFault::NoMemory => Err(NoMemory),
-        _ => {
-            let text = refused_text(alloc, number, fault)?;
-            Ok(text)
-        }
+        _ => refused_text(alloc, number, fault),
     }
 }
 

@@ -29,8 +29,7 @@ pub(crate) fn not_empty_text(
 fn add_not_empty(page: Page, name: &[u8]) -> Result<Page, NoMemory>
     ensures { IfOk result (λ new. new.text.items ≡ line_after page.text.items (codes "not-empty" ∷ name.now ∷ [])) }
 {
-    let page = page.begin(b"not-empty")?.word(name)?.end()?;
-    Ok(page)
+    page.begin(b"not-empty")?.word(name)?.end()
 }
 
 /// `not-fit NAME ..`: the line of a run whose disk of this provider holds no journal of it.
@@ -53,8 +52,7 @@ fn add_not_fit(alloc: Global, page: Page, name: &[u8], why: NotFit) -> Result<Pa
         ≡ line_after page.text.items (codes "not-fit" ∷ name.now ∷ unfit_words (unfit_of why))) }
 {
     let page = page.begin(b"not-fit")?.word(name)?;
-    let page = add_reason(alloc, page, why)?;
-    Ok(page)
+    add_reason(alloc, page, why)
 }
 
 /// Adds `journal AT`, `directory KEPT GIVEN` with digests in hexadecimal, or `entry N`, and ends the line.
@@ -62,21 +60,14 @@ fn add_reason(alloc: Global, page: Page, why: NotFit) -> Result<Page, NoMemory>
     ensures { IfOk result (λ new. new.text.items ≡ rest_after page.text.items (unfit_words (unfit_of why))) }
 {
     match why {
-        NotFit::Journal(place) => {
-            let page = page.word(b"journal")?.number(place)?.end()?;
-            Ok(page)
-        }
+        NotFit::Journal(place) => page.word(b"journal")?.number(place)?.end(),
         NotFit::OtherDirectory(kept, given) => {
             let kept = hex::encode(alloc, kept.as_slice())?;
             let given = hex::encode(alloc, given.as_slice())?;
             let page = page.word(b"directory")?.word(kept.as_bytes())?;
-            let page = page.word(given.as_bytes())?.end()?;
-            Ok(page)
+            page.word(given.as_bytes())?.end()
         }
-        NotFit::BadEntry(number) => {
-            let page = page.word(b"entry")?.number(number)?.end()?;
-            Ok(page)
-        }
+        NotFit::BadEntry(number) => page.word(b"entry")?.number(number)?.end(),
     }
 }
 
@@ -108,10 +99,8 @@ fn add_long_line(page: Page, number: u64) -> Result<Page, NoMemory>
     ensures { IfOk result (λ new. new.text.items
         ≡ line_after page.text.items (codes "too-long" ∷ codes "line" ∷ decimal number ∷ [])) }
 {
-    let page = page
-        .begin(b"too-long")?
+    page.begin(b"too-long")?
         .word(b"line")?
         .number(number)?
-        .end()?;
-    Ok(page)
+        .end()
 }

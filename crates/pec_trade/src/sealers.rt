@@ -58,8 +58,7 @@ fn keys(alloc: Global, directory: &Directory) -> Result<Vec<Text8>, NoMemory>
 fn name_of(alloc: Global, provider: &Provider) -> Result<Text, NoMemory>
     ensures { IfOk result (λ name. name ≡ provider.now.provider.name) }
 {
-    let name = provider.name().copy(alloc)?;
-    Ok(name)
+    provider.name().copy(alloc)
 }
 
 fn key_of(alloc: Global, provider: &Provider) -> Result<Text8, NoMemory>

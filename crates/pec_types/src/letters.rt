@@ -2,7 +2,6 @@ use crate::addresses::Address;
 use crate::messages::MsgId;
 
 /// What providers send each other (RFC 6109, sections 3.1 to 3.3). Providers are numbered from 0.
-#[derive(Drop)]
 pub enum Letter {
     /// The transport envelope of a message, for the provider `to`.
     Envelope { id: MsgId, to: u32 },
@@ -12,4 +11,22 @@ pub enum Letter {
     Outcome { id: MsgId, recipient: Address },
     /// The sender's provider has the outcome. It stands for the reply of a mail transfer.
     Ack { id: MsgId, recipient: Address },
+}
+
+// Written out, so that to drop one is one call.
+impl Drop for Letter {
+    fn drop(self) {
+        match self {
+            Letter::Envelope { id: _, to: _ } => {}
+            Letter::Charge { id: _, by: _ } => {}
+            Letter::Outcome {
+                id: _,
+                recipient: _,
+            } => {}
+            Letter::Ack {
+                id: _,
+                recipient: _,
+            } => {}
+        }
+    }
 }

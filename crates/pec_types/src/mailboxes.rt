@@ -15,11 +15,21 @@ pub enum ItemKind {
 
 /// One line of an account's mailbox: what an item is, and the message and the recipient that it names. An anomaly names
 /// no message; an envelope, an acceptance and a non-acceptance name no recipient.
-#[derive(Drop)]
 pub struct ItemLine {
     pub kind: ItemKind,
     pub id: Option<MsgId>,
     pub recipient: Option<Address>,
+}
+
+// Written out, so that to drop one is one call.
+impl Drop for ItemLine {
+    fn drop(self) {
+        let ItemLine {
+            kind: _,
+            id: _,
+            recipient: _,
+        } = self;
+    }
 }
 
 /// What a clock call gave notice of: a message, one of its certified recipients, and which notice.

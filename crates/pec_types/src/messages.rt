@@ -92,7 +92,6 @@ pub struct Recipient {
 
 /// What a message's head says of it: sender, recipients in order of first appearance, each once, and the texts that
 /// receipts repeat.
-#[derive(Drop)]
 pub struct Facts {
     pub sender: Address,
     pub recipients: Items<Recipient>,
@@ -100,6 +99,20 @@ pub struct Facts {
     pub subject: Option<Text>,
     pub reference: Option<Text>,
     pub reply: Text,
+}
+
+// Written out, so that to drop one is one call.
+impl Drop for Facts {
+    fn drop(self) {
+        let Facts {
+            sender: _,
+            recipients: _,
+            wish: _,
+            subject: _,
+            reference: _,
+            reply: _,
+        } = self;
+    }
 }
 
 impl Recipient {
@@ -153,7 +166,6 @@ fn copied_text(alloc: Global, text: &Option<Text>) -> Result<Option<Text>, NoMem
 }
 
 /// One line of a sender's book: a message, one of its certified recipients, and what is known of the two.
-#[derive(Drop)]
 pub struct BookLine {
     pub id: MsgId,
     pub recipient: Address,
@@ -163,4 +175,20 @@ pub struct BookLine {
     pub warned: Option<Moment>,
     pub noticed: Option<Moment>,
     pub outcome: Option<(Decision, Moment)>,
+}
+
+// Written out, so that to drop one is one call.
+impl Drop for BookLine {
+    fn drop(self) {
+        let BookLine {
+            id: _,
+            recipient: _,
+            class: _,
+            accepted: _,
+            charged: _,
+            warned: _,
+            noticed: _,
+            outcome: _,
+        } = self;
+    }
 }
