@@ -10,7 +10,7 @@ ghost use Rattle.pec_http.specs.declared.stops.Stop.TheVariants as stops;
 use crate::desk::Desk;
 use crate::passes::Pass;
 use crate::stops::Stop;
-use pec_http_head::{Call, Head, Patterns, Route};
+use pec_http_head::{Call, Head, Route};
 use pec_types::{Address, Items};
 use std::alloc::Global;
 
@@ -33,12 +33,7 @@ pub enum Demand {
 }
 
 /// What the head asks of the desk that these bytes are as a whole.
-pub(crate) fn read_demand<K: Desk>(
-    alloc: Global,
-    patterns: &Patterns,
-    desk: &K,
-    text: &[u8],
-) -> Result<Demand, Stop>
+pub(crate) fn read_demand<K: Desk>(alloc: Global, desk: &K, text: &[u8]) -> Result<Demand, Stop>
     ensures ok { IfOk result (λ demand. Demands (K.answers.pass desk.now) text.now (Ok demand)) }
     ensures err { IfErr result (λ stop. stop ≢ stops.NoMemory → Demands (K.answers.pass desk.now) text.now (Err stop)) }
     ensures fits { IfOk result (IsFit (K.answers.is_account desk.now)) }
@@ -47,22 +42,17 @@ pub(crate) fn read_demand<K: Desk>(
     let Some(head) = Head::read(alloc, text)? else {
         return Err(Stop::BadHead);
     };
-    let demand = head_demand(alloc, patterns, desk, &head)?;
+    let demand = head_demand(alloc, desk, &head)?;
     Ok(demand)
 }
 
 #[tactic(auto, unfolding(crate::specs::Asking::demand_of))]
-fn head_demand<K: Desk>(
-    alloc: Global,
-    patterns: &Patterns,
-    desk: &K,
-    head: &Head<'_>,
-) -> Result<Demand, Stop>
+fn head_demand<K: Desk>(alloc: Global, desk: &K, head: &Head<'_>) -> Result<Demand, Stop>
     ensures exact { OrNoMemory stops.NoMemory result (demand_of (K.answers.pass desk.now) (request_shown head.now)) }
     ensures fits { IfOk result (IsFit (K.answers.is_account desk.now)) }
     ensures no_read { IfErr result IsNoRead }
 {
-    let Some(route) = Route::read(alloc, patterns, head.target)? else {
+    let Some(route) = Route::read(alloc, head.target)? else {
         return Err(Stop::NoRoute);
     };
     if head.method != route.call.method() {

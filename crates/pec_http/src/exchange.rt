@@ -13,7 +13,6 @@ use crate::reading::{read_body, read_head};
 use crate::replies::{HEAD_ROOM, Reply, composed, put_reply};
 use crate::statuses::{Kind, Status};
 use crate::stops::Stop;
-use pec_http_head::Patterns;
 use pec_outside::Source;
 use pec_types::Address;
 use std::alloc::Global;
@@ -21,7 +20,6 @@ use std::alloc::Global;
 /// Reads one request, puts it to the desk, and tells the answer.
 pub(crate) fn exchange<S: Source, K: Desk>(
     alloc: Global,
-    patterns: &Patterns,
     connection: &mut S,
     desk: &mut K,
 ) -> Result<Reply, Stop>
@@ -35,7 +33,7 @@ pub(crate) fn exchange<S: Source, K: Desk>(
 {
     let mut came = Vec::new(alloc);
     let end = read_head(connection, &mut came)?;
-    let demand = read_demand(alloc, patterns, desk, &came[..end])?;
+    let demand = read_demand(alloc, desk, &came[..end])?;
     match demand {
         Demand::Look(address, look) => {
             let reply = see(alloc, desk, &address, look)?;

@@ -16,6 +16,5 @@ mod stops;
 
 pub use desk::{Desk, ProviderFaultView};
 pub use passes::Pass;
-pub use pec_http_head::Patterns;
 pub use rows::{a_request_asks_one_thing, a_request_is_stopped_by_its_first_row};
 pub use serving::{Served, serve_one};

@@ -10,7 +10,6 @@ use crate::desk::Desk;
 use crate::exchange::exchange;
 use crate::statuses::Status;
 use crate::stops::Stop;
-use pec_http_head::Patterns;
 use pec_outside::{Sink, Source, write_all};
 use std::alloc::Global;
 
@@ -30,10 +29,9 @@ pub enum Served {
 }
 
 /// Reads one request of a connection, puts it to a desk, and writes the answer (RFC 9110, RFC 9112, within this
-/// project's profile). The patterns of its routes are made once, for all requests.
+/// project's profile).
 pub fn serve_one<C: Source + Sink, K: Desk>(
     alloc: Global,
-    patterns: &Patterns,
     connection: &mut C,
     desk: &mut K,
 ) -> Served
@@ -47,7 +45,7 @@ pub fn serve_one<C: Source + Sink, K: Desk>(
     ensures write_fault { result ≡ served.WriteFault → HasRisen (C.faults connection.old) (C.faults connection.new) }
     ensures later { C.faults connection.old ≤ C.faults connection.new }
 {
-    match exchange(alloc, patterns, connection, desk) {
+    match exchange(alloc, connection, desk) {
         Ok(reply) => send(connection, reply.status, &reply.text),
         Err(stop) => match stop {
             Stop::ReadFault => Served::ReadFault,

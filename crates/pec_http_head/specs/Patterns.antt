@@ -12,7 +12,7 @@ use Rattle.pec_http_head.specs.declared.routes.Call.{Call}
 use Rattle.pec_http_head.specs.declared.routes.Call.TheVariants as calls
 use Rattle.matchit.specs.Route.{Scan, parse_route}
 
--- A pattern in front of whose parameters and behind them these bytes stand.
+-- The tokens of a pattern: those of `/mail/{address}/`, and behind them these bytes and then these tokens.
 unfoldable pub tokens : Bytes → Bytes → List ℕ
 tokens behind last = codes "/mail/" ++ (param_token ∷ (slash ∷ (behind ++ last)))
 

@@ -16,6 +16,5 @@ pub use heads::{Field, Head};
 pub use laws::{
     a_head_ends_in_one_place, a_request_is_seen_in_one_way, a_spaced_path_has_one_reading,
 };
-pub use patterns::Patterns;
 pub use routes::{Call, Route};
 pub use stands::{HEAD_BYTES, HEAD_LINES, Scan, Stand};

@@ -31,7 +31,7 @@ pub(crate) struct Spelled<'t> {
 
 /// The patterns of the service, each with what it asks.
 #[derive(Drop)]
-pub struct Patterns {
+pub(crate) struct Patterns {
     router: Router<Asked>,
 }
 
@@ -48,7 +48,7 @@ impl Model for Patterns {
 
 impl Patterns {
     /// The four patterns of the service.
-    pub fn new(alloc: Global) -> Result<Patterns, NoMemory> {
+    pub(crate) fn new(alloc: Global) -> Result<Patterns, NoMemory> {
         let mut router = Router::new(alloc);
         add(&mut router, "/mail/{address}/submit", Asked::Submit)?;
         add(&mut router, "/mail/{address}/book", Asked::Book)?;

@@ -43,13 +43,10 @@ impl Call {
 
 impl Route {
     /// The route of a target, `None` where it has none.
-    pub fn read(
-        alloc: Global,
-        patterns: &Patterns,
-        target: &[u8],
-    ) -> Result<Option<Route>, NoMemory>
+    pub fn read(alloc: Global, target: &[u8]) -> Result<Option<Route>, NoMemory>
         ensures { IfOk result (λ found. found ≡ route_of target.now) }
     {
+        let patterns = Patterns::new(alloc)?;
         let Some(found) = patterns.find(target) else {
             return Ok(None);
         };

@@ -1,6 +1,6 @@
 -- Connections one after another, from a place: `AreConnections`; and a service, with how it ends: `IsService`. This
 -- project's profile.
-use Rattle.std.specs.Prelude.{◌≡◌, ℕ, ◌<◌, ◌≤◌, List, [], ◌∷◌, ◌++◌, length, slice_get, All, Option, None, Some}
+use Rattle.std.specs.Prelude.{◌≡◌, ℕ, ◌<◌, ◌≤◌, List, [], ◌∷◌, ◌++◌, length, slice_get, All, IsSome, Option, None, Some}
 use Rattle.std.specs.List.{flat_map}
 use Rattle.std.specs.Option.{option_and_then, option_to_list}
 use Rattle.pec_types.specs.Bytes.{Bytes}
@@ -42,7 +42,7 @@ pub data Ending : Type 0 where
   AllServed : Ending  -- as many connections were served as were asked for
   NoConnection : Ending  -- the door failed
   NoMoment : Ending  -- the clock did, and the connection that had come in was closed
-  Halted : Ending  -- the output failed or memory ran out, within a connection, or memory did before the first
+  Halted : Ending  -- the output failed or memory ran out, within a connection
 
 -- What happened in a service: the connections of which all was played, and the one within which it halted.
 pub record Service : Type 0 where
@@ -58,7 +58,7 @@ abbrev pub EndsSo : ℕ → ℕ → Ending → Option Connection → Type 0
 EndsSo wanted served AllServed part = (served ≡ wanted) × (part ≡ None)
 EndsSo wanted served NoConnection part = (served < wanted) × (part ≡ None)
 EndsSo wanted served NoMoment part = (served < wanted) × (part ≡ None)
-EndsSo wanted served Halted part = served ≤ wanted
+EndsSo wanted served Halted part = (served < wanted) × IsSome part
 
 -- the command behind those that were played of the connection within which it halted
 abbrev pub next_in : List Kept → Connection → Option Command

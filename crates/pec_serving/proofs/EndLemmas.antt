@@ -72,7 +72,7 @@ module _ {D S : Type 0} (sight : D → Sight) (count : D → ℕ) (disks all : T
         → ServesSo trade all start.kept wanted here left before after endings.WriteFault
     ends_broken after part =
         line_broke trade all start.kept laws joins here at served before mid going left moment told
-        (comes_so (came.Served moment told) comes) wanted (omega (arith, few)) after part
+        (comes_so (came.Served moment told) comes) wanted few after part
 
     module _ (keeps_again : Keeps sight count disks start again) (last : NetworkState D S) (line_held after : Option Bytes)
         (from upto : ℕ) (line : line_held ≡ followed_by mid (served_line told)) where
@@ -104,7 +104,7 @@ module _ {D S : Type 0} (sight : D → Sight) (count : D → ℕ) (disks all : T
           let went = went_so (Some WriteFault) clock
           in broke trade all start.kept laws joins here at served before mid going left moment told
           (comes_so (came.Served moment told) comes) line_held line network_left went.calls went.unplayed went.plays went.are
-          wanted (omega (arith, few)) went.ends.0 after
+          wanted few went.ends.0 after
           (part_behind mid line_held after (served_line told)
           (calls_text trade (providers_of start.kept) left.network went.calls) line went.ends.1)
 
@@ -115,7 +115,7 @@ module _ {D S : Type 0} (sight : D → Sight) (count : D → ℕ) (disks all : T
           let went = went_so (Some NoMemory) clock
           in lacks trade all start.kept laws joins here at served before mid going left moment told
           (comes_so (came.Served moment told) comes) line_held line network_left went.calls went.unplayed went.plays went.are
-          wanted (omega (arith, few)) went.ends.0 went.ends.2 after went.ends.1
+          wanted few went.ends.0 went.ends.2 after went.ends.1
 
 -- a count that rose later rose from the beginning
 pub risen_since : (a b d : ℕ) → a ≤ b → b ≤ d → HasRisen b d → HasRisen a d

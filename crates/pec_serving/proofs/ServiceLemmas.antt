@@ -52,22 +52,6 @@ pub record ConnectionLaws (trade : Trade) (tells : Type 0) (kept : List Kept) : 
 
 -- ---- one connection, behind its line
 
--- no memory for what is made once, before the first connection
-pub lacked_at_once : (trade : Trade) (tells : Type 0) (kept : List Kept) (wanted : ℕ) (here : Place) (before : Option Bytes)
-    → ServesSo trade tells kept wanted here here before before endings.NoMemory
-lacked_at_once trade tells kept wanted here before = record {
-  service = record { whole = []; part = None; ending = Halted };
-  is = record {
-    each = tt;
-    whole = All-nil (IsWhole kept);
-    ends = omega arith;
-    leaves = (Behind refl, refl);
-    later = λ provider. omega arith;
-  };
-  ending_is = refl;
-  written = followed_nothing before;
-}
-
 module _ (trade : Trade) (tells : Type 0) (kept : List Kept) (laws : CallLaws trade tells) (here there : Place) (moment : ℕ) (told : Served)
     (next : IsServedNext trade tells kept here there moment told) where
   abbrev connection : Connection
@@ -282,7 +266,7 @@ module _ (trade : Trade) (tells : Type 0) (kept : List Kept) (laws : CallLaws tr
       halted : Connection → Service
       halted c = record { whole = going.whole; part = Some c; ending = Halted }
 
-      pub broke : (wanted : ℕ) → served ≤ wanted → state_behind there.network calls ≡ left → (after : Option Bytes)
+      pub broke : (wanted : ℕ) → served < wanted → state_behind there.network calls ≡ left → (after : Option Bytes)
           → WrotePart mid after (served_line told ++ calls_text trade (providers_of kept) there.network calls)
           → ServesSo trade tells kept wanted here (moved there left) before after endings.WriteFault
       broke wanted few is after part = record {
@@ -290,7 +274,7 @@ module _ (trade : Trade) (tells : Type 0) (kept : List Kept) (laws : CallLaws tr
         is = record {
           each = one_is left (at_same is) (at_later is);
           whole = going.all_whole;
-          ends = omega (arith, few, going.count);
+          ends = (omega (arith, few, going.count), refl);
           leaves = (
             Behind (ap (λ (p : Place). p.network.sites) (sym (joins.behind here going.whole (then_at left)))),
             ap (λ (p : Place). p.replies) (sym (joins.behind here going.whole (then_at left))),
@@ -306,7 +290,7 @@ module _ (trade : Trade) (tells : Type 0) (kept : List Kept) (laws : CallLaws tr
       }
 
       -- memory ran out at the next command
-      pub lacks : (wanted : ℕ) → served ≤ wanted
+      pub lacks : (wanted : ℕ) → served < wanted
           → LeavesOff trade (state_behind there.network calls).sites (slice_get unplayed 0) left.sites
           → ((provider : ℕ) → (state_behind there.network calls).counts provider ≤ left.counts provider)
           → (after : Option Bytes)
@@ -321,7 +305,7 @@ module _ (trade : Trade) (tells : Type 0) (kept : List Kept) (laws : CallLaws tr
             is = record {
               each = one_is at same (behind_later trade tells kept laws now there moment told next calls unplayed plays are);
               whole = going.all_whole;
-              ends = omega (arith, few, going.count);
+              ends = (omega (arith, few, going.count), refl);
               leaves = (
                 subst (λ (p : Place). LeavesOff trade p.network.sites (next_in kept (then_at at)) left.sites) (sym behind)
                     (subst (λ (o : Option Command). LeavesOff trade at.sites o left.sites) (sym (next_is at)) leaves),
@@ -421,7 +405,7 @@ module _ (trade : Trade) (tells : Type 0) (kept : List Kept) (laws : CallLaws tr
 
   -- the line of the connection wasn't written whole
   module _ (there : Place) (moment : ℕ) (told : Served) (next : IsServedNext trade tells kept now there moment told) where
-    pub line_broke : (wanted : ℕ) → served ≤ wanted → (after : Option Bytes) → WrotePart mid after (served_line told)
+    pub line_broke : (wanted : ℕ) → served < wanted → (after : Option Bytes) → WrotePart mid after (served_line told)
         → ServesSo trade tells kept wanted here there before after endings.WriteFault
     line_broke wanted few after part =
         broke there moment told next (followed_by mid (served_line told)) refl there.network []

@@ -10,7 +10,7 @@ ghost use Rattle.pec_serving.specs.Hearing.{Hears};
 ghost use Rattle.pec_serving.specs.Playing.{state_of};
 
 use pec_desk::{NetworkDesk, an_account_sees_its_own};
-use pec_http::{Patterns, Served, serve_one};
+use pec_http::{Served, serve_one};
 use pec_outside::{Disk, Sink, Source};
 use pec_playing::{Network, what_carries_on_is_a_moment, what_is_told_was_counted};
 use pec_plays::a_network_stays_sound;
@@ -23,7 +23,6 @@ use std::alloc::Global;
 /// left it.
 pub(crate) fn answer<D: Disk, J: Judge, C: Source + Sink>(
     alloc: Global,
-    patterns: &Patterns,
     network: Network<D, HmacSealer, J>,
     moment: Moment,
     connection: &mut C,
@@ -48,7 +47,7 @@ pub(crate) fn answer<D: Disk, J: Judge, C: Source + Sink>(
     a_network_stays_sound();
     as_many_providers(&network);
     let mut desk = NetworkDesk::open(network, moment);
-    let told = serve_one(alloc, patterns, connection, &mut desk);
+    let told = serve_one(alloc, connection, &mut desk);
     let network = desk.close();
     as_many_providers(&network);
     (network, told)

@@ -7,7 +7,7 @@ ghost use Rattle.pec_service.specs.OfRuns.{MovesOn};
 ghost use Rattle.pec_serving.specs.Serving.{ComesNext, place_of};
 
 use crate::answering::answer;
-use pec_http::{Patterns, Served};
+use pec_http::Served;
 use pec_outside::{Disk, Door, Ticks};
 use pec_playing::Network;
 use pec_screen::Judge;
@@ -30,7 +30,6 @@ pub(crate) enum Came {
 /// and closes it. A connection for which there is no moment is closed unread.
 pub(crate) fn next<D: Disk, J: Judge, T: Ticks, R: Door>(
     alloc: Global,
-    patterns: &Patterns,
     network: Network<D, HmacSealer, J>,
     ticks: &mut T,
     door: &mut R,
@@ -64,7 +63,7 @@ pub(crate) fn next<D: Disk, J: Judge, T: Ticks, R: Door>(
             return (network, Came::NoMoment);
         }
     };
-    let (network, told) = answer(alloc, patterns, network, moment, &mut connection);
+    let (network, told) = answer(alloc, network, moment, &mut connection);
     door.close(connection);
     (network, Came::Served(moment, told))
 }

@@ -10,7 +10,6 @@ ghost use Rattle.pec_serving.specs.Serving.{ServesSo, place_of};
 use crate::clock::play_clock;
 use crate::lines::write_outcome;
 use crate::next::{Came, next};
-use pec_http::Patterns;
 use pec_outside::{Depot, Disk, Door, Sink, Ticks};
 use pec_playing::{Network, Stop};
 use pec_screen::Judge;
@@ -28,7 +27,7 @@ pub enum Ending {
     NoConnection,
     /// The clock failed, and the connection that had come in was closed unread.
     NoMoment,
-    /// Memory ran out, before the first connection or behind an answer.
+    /// Memory ran out behind an answer.
     NoMemory,
     /// The output failed.
     WriteFault,
@@ -84,12 +83,9 @@ where
     connections_are_joined::<P>();
     acts_are_calls::<P>();
     moves_are_joined::<P>();
-    let Ok(patterns) = Patterns::new(alloc) else {
-        return (network, Ending::NoMemory);
-    };
     let mut network = network;
     for served in 0..wanted {
-        let (again, came) = next(alloc, &patterns, network, ticks, door);
+        let (again, came) = next(alloc, network, ticks, door);
         network = again;
         match came {
             Came::NoConnection => return (network, Ending::NoConnection),

@@ -4,7 +4,7 @@ ghost use Rattle.std.specs.Prelude.{◌<◌};
 use super::desk::{Mood, OneAccountDesk};
 use super::wire::Wire;
 use crate::texts::{joined, put, put_number, says};
-use pec_http::{Patterns, Served, serve_one};
+use pec_http::{Served, serve_one};
 use std::alloc::Global;
 
 /// The number of a call that isn't made.
@@ -27,21 +27,13 @@ impl Drop for Exchange {
     }
 }
 
-/// Serves the request that the input is, in pieces of so many bytes. Where there is no memory for the patterns, nothing is
-/// read.
+/// Serves the request that the input is, in pieces of so many bytes.
 pub fn serve(alloc: Global, mood: Mood, input: &[u8], piece: usize, failing: u64) -> Exchange
     requires { 0 < piece }
 {
     let mut desk = OneAccountDesk::new(alloc, mood);
     let mut wire = Wire::new(alloc, input, piece, failing);
-    let Ok(patterns) = Patterns::new(alloc) else {
-        return Exchange {
-            served: Served::ReadFault,
-            wire,
-            desk,
-        };
-    };
-    let served = serve_one(alloc, &patterns, &mut wire, &mut desk);
+    let served = serve_one(alloc, &mut wire, &mut desk);
     Exchange { served, wire, desk }
 }
 

@@ -12,7 +12,7 @@ use Rattle.pec_serving.proofs.EndLemmas.{risen_since, ends_broken, ends_lacking,
 use Rattle.pec_playing.specs.Points.{state_in}
 use Rattle.pec_serving.proofs.KeepLemmas.{keeps_all, keeps_on}
 use Rattle.pec_serving.proofs.MoveLemmas.{MoveLaws, moves_again, moves_last, moves_stopped, served_in_time}
-use Rattle.pec_serving.proofs.ServiceLemmas.{CallLaws, ConnectionLaws, all_served, goes_none, lacked_at_once}
+use Rattle.pec_serving.proofs.ServiceLemmas.{CallLaws, ConnectionLaws, all_served, goes_none}
 use Rattle.pec_serving.proofs.serving.serve.Goals as goal
 use Rattle.pec_playing.specs.OfNetworks.{AllStand, world_of}
 
@@ -36,20 +36,6 @@ loop-served-init g c = record {
   door_later = omega arith;
   out_later = omega arith;
 }
-
-pub returns-in_default-clause-serves : goal.returns-in_default-clause-serves
-returns-in_default-clause-serves g c = λ stand elsewhere.
-    lacked_at_once (world_of seals_of c.args.network) (g.P.Depot.tells × g.D.Disk.tells) c.args.network.kept c.args.wanted
-    (place_of g.D.Counted.faults elsewhere c.args.network (g.T.Ticks.coming c.args.ticks.now)
-    (g.R.Door.requests c.args.door.now) (g.R.Door.replies c.args.door.now)) (g.W.Stream.held c.args.out.now)
-
-pub returns-in_default-clause-keeps : goal.returns-in_default-clause-keeps
-returns-in_default-clause-keeps g c = keeps_all g.D.Disk.sight g.D.Counted.faults g.D.Disk.tells c.args.network
-
-pub returns-in_default-clause-moves : goal.returns-in_default-clause-moves
-returns-in_default-clause-moves g c = λ stand elsewhere.
-    (c.moves_are_joined.ensures.none (world_of seals_of c.args.network)
-    (state_in g.D.Counted.faults elsewhere [] c.args.network)).moves
 
 pub returns-in-NoConnection-clause-serves : goal.returns-in-NoConnection-clause-serves
 returns-in-NoConnection-clause-serves g c = λ stand elsewhere.
@@ -223,7 +209,7 @@ returns-in-Err-WriteFault-clause-serves g c = λ stand elsewhere.
     (keeps_on g.D.Disk.sight g.D.Counted.faults g.D.Disk.tells c.args.network c.loop-served.network c.next-again.result.0
     c.loop-served.invariant.keeps c.next-again.ensures.keeps) c.play_clock.new.network (g.W.Stream.held c.write_outcome.new.out)
     (g.W.Stream.held c.play_clock.new.out) (g.W.Counted.faults c.write_outcome.new.out)
-    (g.W.Counted.faults c.play_clock.new.out) c.in_default-write_outcome.ensures.ok
+    (g.W.Counted.faults c.play_clock.new.out) c.in_default.ensures.ok
     (subst (λ (stop : Stop). ClockWent (world_of seals_of again) (providers_of again.kept)
     (g.P.Depot.tells × g.D.Disk.tells) g.D.Disk.sight (clock_from (length again.kept) 0 c.in-Served.moment)
     (point_of g.D.Counted.faults elsewhere [] again (g.W.Stream.held c.write_outcome.new.out) (g.W.Counted.faults c.write_outcome.new.out))
@@ -275,7 +261,7 @@ returns-in-Err-NoMemory-clause-serves g c = λ stand elsewhere.
     (keeps_on g.D.Disk.sight g.D.Counted.faults g.D.Disk.tells c.args.network c.loop-served.network c.next-again.result.0
     c.loop-served.invariant.keeps c.next-again.ensures.keeps) c.play_clock.new.network (g.W.Stream.held c.write_outcome.new.out)
     (g.W.Stream.held c.play_clock.new.out) (g.W.Counted.faults c.write_outcome.new.out)
-    (g.W.Counted.faults c.play_clock.new.out) c.in_default-write_outcome.ensures.ok
+    (g.W.Counted.faults c.play_clock.new.out) c.in_default.ensures.ok
     (subst (λ (stop : Stop). ClockWent (world_of seals_of again) (providers_of again.kept)
     (g.P.Depot.tells × g.D.Disk.tells) g.D.Disk.sight (clock_from (length again.kept) 0 c.in-Served.moment)
     (point_of g.D.Counted.faults elsewhere [] again (g.W.Stream.held c.write_outcome.new.out) (g.W.Counted.faults c.write_outcome.new.out))
@@ -331,7 +317,7 @@ loop-served-preserved g c =
           (keeps_on g.D.Disk.sight g.D.Counted.faults g.D.Disk.tells c.args.network c.loop-served.network c.next-again.result.0
           c.loop-served.invariant.keeps c.next-again.ensures.keeps) c.play_clock.new.network (g.W.Stream.held c.write_outcome.new.out)
           (g.W.Stream.held c.play_clock.new.out) (g.W.Counted.faults c.write_outcome.new.out)
-          (g.W.Counted.faults c.play_clock.new.out) c.in_default-write_outcome.ensures.ok (c.in-Ok-play_clock.ensures.clock
+          (g.W.Counted.faults c.play_clock.new.out) c.in_default.ensures.ok (c.in-Ok.ensures.clock
           (λ told. c.next-again.ensures.keeps.stands told.1 (c.loop-served.invariant.keeps.stands told.1 (stand told))) elsewhere);
       moves = λ stand elsewhere.
           let tells = g.P.Depot.tells × g.D.Disk.tells in
@@ -354,7 +340,7 @@ loop-served-preserved g c =
           c.loop-served.invariant.keeps c.next-again.ensures.keeps in
           moves_last g.D.Disk.sight g.D.Counted.faults g.D.Disk.tells tells seals_of c.args.network now again elsewhere laws
           c.loop-served.invariant.keeps (c.loop-served.invariant.moves stand elsewhere) (c.next-again.ensures.moves elsewhere)
-          keeps_again c.play_clock.new.network ((c.in-Ok-play_clock.ensures.clock
+          keeps_again c.play_clock.new.network ((c.in-Ok.ensures.clock
           (λ told. c.next-again.ensures.keeps.stands told.1 (c.loop-served.invariant.keeps.stands told.1 (stand told))) elsewhere).moves_on may refl);
       home = λ told k. c.play_clock.ensures.home told k ∙ c.loop-served.invariant.home told k;
       last = λ k. c.play_clock.ensures.last k ∙ c.loop-served.invariant.last k;
