@@ -40,19 +40,19 @@ fails_is : (status : Status) → status_at plays.Fails ≡ Some status → statu
 fails_is status e = same_Some statuses.StartFault status e
 
 module _ (text_of : Range → Trade → List Provider → List (List Entry) → Bytes) (header : Bytes) {D : Type 0}
-    (tells : Type 0) (sight : D → Sight) (range : Range) (before after : Option Bytes) (home left : ℕ → Option D)
+    (tells : Type 0) (sight : D → Sight) (faults : D → ℕ) (range : Range) (before after : Option Bytes) (home left : ℕ → Option D)
     (from upto : ℕ → ℕ) where
   abbrev Ran : Status → Option Bytes → Type 0
-  Ran status unread = Extracted text_of header tells sight range status before after home left from upto unread
+  Ran status unread = Extracted text_of header tells sight faults range status before after home left from upto unread
 
   abbrev At : Status → Setting → Opening → Had → Type 0
-  At status = IsAt text_of header tells sight range status before after home left from upto
+  At status = IsAt text_of header tells sight faults range status before after home left from upto
 
   abbrev Goes : Status → Setting → Opening → Next → Type 0
-  Goes status = GoesOn text_of header tells sight range status before after home left from upto
+  Goes status = GoesOn text_of header tells sight faults range status before after home left from upto
 
   abbrev Writes : Status → Setting → List (List Entry) → Type 0
-  Writes status = Extracts text_of header tells sight range status before after home left from upto
+  Writes status = Extracts text_of header tells sight faults range status before after home left from upto
 
   abbrev CameNext : Setting → Opening → Next → Type 0
   CameNext setting opening next = IsNext (trade_in setting) (disks_at tells sight home) Resume (next_of opening) next
@@ -471,12 +471,12 @@ never_risen was now risen still =
     (arith, same, x)
 
 module _ (text_of : Range → Trade → List Provider → List (List Entry) → Bytes) (header : Bytes) {D : Type 0}
-    (tells : Type 0) (sight : D → Sight) (range : Range) (before after : Option Bytes) (home left : ℕ → Option D)
+    (tells : Type 0) (sight : D → Sight) (faults : D → ℕ) (range : Range) (before after : Option Bytes) (home left : ℕ → Option D)
     (old new : Counts) (none : NoFaults old new) (text : Bytes) (short : length text ≤ LONGEST_DIRECTORY)
     (providers : List Provider) (reads : directory_in text ≡ Ok providers) where
   abbrev RanSo : Status → Type 0
   RanSo status =
-      Extracted text_of header tells sight range status before after home left old.disks new.disks (Some text)
+      Extracted text_of header tells sight faults range status before after home left old.disks new.disks (Some text)
 
   abbrev IsWhole : Status → Setting → Opening → Type 0
   IsWhole status setting opening =
@@ -502,7 +502,7 @@ module _ (text_of : Range → Trade → List Provider → List (List Entry) → 
 
   done_whole : (ran : RanSo statuses.Done) → IsWhole statuses.Done ran.setting ran.opening
   done_whole ran =
-      let so = done_so text_of header tells sight range before after home left old.disks new.disks (Some text) ran
+      let so = done_so text_of header tells sight faults range before after home left old.disks new.disks (Some text) ran
       in let same = same_read ran.bytes so.0 ran.input so.1
       in let setting = subst (λ (p : List Provider). IsSetting p ran.setting) same so.2
       in inr (inr (
@@ -523,13 +523,13 @@ module _ (text_of : Range → Trade → List Provider → List (List Entry) → 
       → ((unfit : Unfit) → ran.opening.next ≢ Unfits unfit) → IsWhole status ran.setting ran.opening
   whole_by statuses.Done ran blames of fit = done_whole ran
   whole_by statuses.Refused ran blames of fit =
-      let so = refused_so text_of header tells sight range before after home left old.disks new.disks (Some text) ran
+      let so = refused_so text_of header tells sight faults range before after home left old.disks new.disks (Some text) ran
       in absurd (never_refused ran.bytes so.0 ran.input so.1)
   whole_by statuses.InputTooLong ran blames of fit =
-      let so = long_so text_of header tells sight range before after home left old.disks new.disks (Some text) ran
+      let so = long_so text_of header tells sight faults range before after home left old.disks new.disks (Some text) ran
       in absurd (never_long ran.bytes ran.input so.0)
   whole_by statuses.NotFit ran blames of fit =
-      let so = unfit_so text_of header tells sight range before after home left old.disks new.disks (Some text) ran
+      let so = unfit_so text_of header tells sight faults range before after home left old.disks new.disks (Some text) ran
       in absurd (fit so.0 so.1)
   whole_by statuses.ReadFault ran blames of fit = absurd (never_risen old.source new.source blames none.source)
   whole_by statuses.WriteFault ran blames of fit = absurd (never_risen old.sink new.sink blames none.sink)
@@ -545,10 +545,10 @@ module _ (text_of : Range → Trade → List Provider → List (List Entry) → 
   -- A run without faults whose input is a directory, and whose disks hold journals, writes the text, unless memory runs out or
   -- an entry isn't what was kept.
   pub whole_so : (status : Status)
-      → (ran : ExtractRan text_of header tells sight range status (Some text) before after home left old new)
+      → (ran : ExtractRan text_of header tells sight faults range status (Some text) before after home left old new)
       → ((unfit : Unfit) → ran.extracted.opening.next ≢ Unfits unfit)
       → IsWhole status ran.extracted.setting ran.extracted.opening
   whole_so status ran fit =
       whole_by status ran.extracted ran.blame
-      (status_so text_of header tells sight range before after home left old.disks new.disks status (Some text)
+      (status_so text_of header tells sight faults range before after home left old.disks new.disks status (Some text)
       ran.extracted) fit

@@ -18,7 +18,7 @@ use Rattle.pec_runs.specs.Openings.{AreLeft, AreUntouched, IsLeft, IsOpening, Ne
 use Rattle.pec_runs.specs.Openings.{disks_at, next_of, opened_all}
 use Rattle.pec_runs.specs.Plays.{Ends, Finish, finish_text}
 use Rattle.pec_runs.specs.Plays as plays
-use Rattle.pec_runs.specs.Ran.{Blames, Counts, NoneFell, TellsAs}
+use Rattle.pec_runs.specs.Ran.{Blames, Counts, NoneFell, TellsAs, WritesAt}
 use Rattle.pec_runs.specs.Statuses.{Status}
 use Rattle.pec_runs.specs.Statuses as statuses
 use Rattle.pec_runs.specs.Through.{AreHadFrom}
@@ -79,14 +79,14 @@ finish_at number Stops = plays.Stops
 -- ---- the run
 
 -- `text_of`: the text of an extract, by its range, and by the world, the providers and the journals that it is of; `header`:
--- the first record of it. `home` and `left` are the disks at home before the run and behind it; between these their counts
+-- the first record of it. `faults` is the count of faults that a disk itself tells. `home` and `left` are the disks at home before the run and behind it; between these their counts
 -- of faults rose so. `tells` says that disks tell what they hold.
 module _ (text_of : Range → Trade → List Provider → List (List Entry) → Bytes) (header : Bytes) {D : Type 0}
-    (tells : Type 0) (sight : D → Sight) (range : Range) (status : Status) (before after : Option Bytes)
+    (tells : Type 0) (sight : D → Sight) (faults : D → ℕ) (range : Range) (status : Status) (before after : Option Bytes)
     (home left : ℕ → Option D) (from upto : ℕ → ℕ) where
   -- All journals were opened, and their text was written, or a front of it. The disks were opened so, with these counts of
   -- faults; from then on a crash leaves of each disk, at any moment, the journal that was opened, and only a fault of a disk
-  -- since then is told as one.
+  -- since then is told as one: the counts are those of the disks that were opened.
   pub record Extracts (setting : Setting) (journals : List (List Entry)) : Type 0 where
     pub headed : TellsHeader status header before after
     pub told : tells → TellsText status before after (text_of range (trade_in setting) (providers_in setting) journals)
@@ -95,6 +95,7 @@ module _ (text_of : Range → Trade → List Provider → List (List Entry) → 
     pub images : tells → (provider : ℕ) (was now : D) → opened provider ≡ Some was → left provider ≡ Some now
         → LeavesOnly (sight was) (sight now) (IsLeft (opened_all (trade_in setting) [] journals) provider)
     pub counts : ℕ → ℕ
+    pub counted : (provider : ℕ) (disk : D) → opened provider ≡ Some disk → counts provider ≡ faults disk
     pub sooner : (provider : ℕ) → from provider ≤ counts provider
     pub failed : status ≡ statuses.DiskFault → (provider : ℕ) × HasRisen (counts provider) (upto provider)
 
@@ -111,6 +112,7 @@ module _ (text_of : Range → Trade → List Provider → List (List Entry) → 
   -- that, and the others are untouched.
   pub record HasOpened (setting : Setting) (opening : Opening) : Type 0 where
     pub is : IsOpening (trade_in setting) (disks_at tells sight home) Resume opening
+    pub writes : WritesAt status opening.next
     pub goes_on : GoesOn setting opening opening.next
     pub disks : AreLeft (disks_at tells sight home) (disks_at tells sight left) Resume opening
         (opened_all (trade_in setting) [] opening.journals)
@@ -137,9 +139,9 @@ module _ (text_of : Range → Trade → List Provider → List (List Entry) → 
 
 -- It ran so; and the status blames a device only where its count of faults rose.
 pub record ExtractRan (text_of : Range → Trade → List Provider → List (List Entry) → Bytes) (header : Bytes) {D : Type 0}
-    (tells : Type 0) (sight : D → Sight) (range : Range) (status : Status) (unread before after : Option Bytes)
-    (home left : ℕ → Option D) (old new : Counts) : Type 0 where
-  pub extracted : Extracted text_of header tells sight range status before after home left old.disks new.disks unread
+    (tells : Type 0) (sight : D → Sight) (faults : D → ℕ) (range : Range) (status : Status)
+    (unread before after : Option Bytes) (home left : ℕ → Option D) (old new : Counts) : Type 0 where
+  pub extracted : Extracted text_of header tells sight faults range status before after home left old.disks new.disks unread
   pub blame : Blames status old new
   pub counts : NoneFell old new
 

@@ -83,7 +83,7 @@ pub fn a_status_says_what_was_extracted<P: Depot>()
     ensures whole { (text_of : Range → Trade → List Provider → List (List Entry) → Bytes) (header : Bytes)
         (range : Range) (status : Status) (text : Bytes) (before after : Option Bytes) (depot left : P)
         (old new : Counts)
-        (ran : ExtractRan text_of header (P.tells × P.D.tells) P.D.sight range status (Some text) before after
+        (ran : ExtractRan text_of header (P.tells × P.D.tells) P.D.sight P.D.faults range status (Some text) before after
         (P.home depot) (P.home left) old new)
         → NoFaults old new → length text ≤ LONGEST_DIRECTORY
         → (providers : List Provider) → directory_in text ≡ Ok providers

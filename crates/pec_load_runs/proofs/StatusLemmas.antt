@@ -188,13 +188,13 @@ played_all told screens count few status e before after tells old_disks new_disk
     ]
 
 pub load_done : {D : Type 0} → Told → (screens : List (List Patterns)) (count : ℕ) (before after : Option Bytes) (tells : Type 0)
-    (sight : D → Sight) (home left : ℕ → Option D) (old new : Counts) → count ≤ 20000
-    → (load : LoadRan tells sight count screens statuses.Done before after home left old new)
+    (sight : D → Sight) (faults : D → ℕ) (home left : ℕ → Option D) (old new : Counts) → count ≤ 20000
+    → (load : LoadRan tells sight faults count screens statuses.Done before after home left old new)
     → (load.through.ran.happened.opening.next ≡ NoMore)
     × (length load.through.ran.happened.lucks ≡ length (commands_of count))
     × (after ≡ followed_by before (state_text count (world load.through.ran.happened)
     (outcome_of (load_asked screens) load.through.ran.happened).after))
-load_done told screens count before after tells sight home left old new few load =
+load_done told screens count before after tells sight faults home left old new few load =
     let ran = load.through.ran in
     let all = played_all told screens count few load.played load.told.0 _ _ tells _ _ _ _ ran in (
       all.0,
@@ -213,24 +213,24 @@ still_down before now still risen =
     omega arith
 
 pub load_quiet : {D : Type 0} (count : ℕ) (screens : List (List Patterns)) (before after : Option Bytes) (tells : Type 0) (sight : D → Sight)
-    (home left : ℕ → Option D) (old new : Counts) (status : Status)
-    → LoadRan tells sight count screens status before after home left old new → NoFaults old new → IsQuiet status
-load_quiet count screens before after tells sight home left old new statuses.Done load none = tt
-load_quiet count screens before after tells sight home left old new statuses.NoMemory load none = tt
-load_quiet count screens before after tells sight home left old new statuses.NotEmpty load none = tt
-load_quiet count screens before after tells sight home left old new statuses.WriteFault load none =
+    (faults : D → ℕ) (home left : ℕ → Option D) (old new : Counts) (status : Status)
+    → LoadRan tells sight faults count screens status before after home left old new → NoFaults old new → IsQuiet status
+load_quiet count screens before after tells sight faults home left old new statuses.Done load none = tt
+load_quiet count screens before after tells sight faults home left old new statuses.NoMemory load none = tt
+load_quiet count screens before after tells sight faults home left old new statuses.NotEmpty load none = tt
+load_quiet count screens before after tells sight faults home left old new statuses.WriteFault load none =
     still_down old.sink new.sink none.sink load.blame
-load_quiet count screens before after tells sight home left old new statuses.StartFault load none =
+load_quiet count screens before after tells sight faults home left old new statuses.StartFault load none =
     elim load.blame [
       | inl depot ↦ still_down old.depot new.depot none.depot depot
       | inr disk ↦ still_down (old.disks disk.0) (new.disks disk.0) (none.disks disk.0) disk.1
     ]
-load_quiet count screens before after tells sight home left old new statuses.Usage load none = load.told
-load_quiet count screens before after tells sight home left old new statuses.Refused load none = load.told
-load_quiet count screens before after tells sight home left old new statuses.ReadFault load none = load.told
-load_quiet count screens before after tells sight home left old new statuses.NotFit load none = load.told
-load_quiet count screens before after tells sight home left old new statuses.ClockFault load none = load.told
-load_quiet count screens before after tells sight home left old new statuses.DoorFault load none = load.told
-load_quiet count screens before after tells sight home left old new statuses.DiskFault load none = load.told
-load_quiet count screens before after tells sight home left old new statuses.Changed load none = load.told
-load_quiet count screens before after tells sight home left old new statuses.InputTooLong load none = load.told
+load_quiet count screens before after tells sight faults home left old new statuses.Usage load none = load.told
+load_quiet count screens before after tells sight faults home left old new statuses.Refused load none = load.told
+load_quiet count screens before after tells sight faults home left old new statuses.ReadFault load none = load.told
+load_quiet count screens before after tells sight faults home left old new statuses.NotFit load none = load.told
+load_quiet count screens before after tells sight faults home left old new statuses.ClockFault load none = load.told
+load_quiet count screens before after tells sight faults home left old new statuses.DoorFault load none = load.told
+load_quiet count screens before after tells sight faults home left old new statuses.DiskFault load none = load.told
+load_quiet count screens before after tells sight faults home left old new statuses.Changed load none = load.told
+load_quiet count screens before after tells sight faults home left old new statuses.InputTooLong load none = load.told

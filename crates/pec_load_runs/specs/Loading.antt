@@ -101,13 +101,13 @@ counts_with counts source sink =
 -- The program ran on `load N`, over a depot that had these disks at home, by provider, and has those: from what the output
 -- held and the counts of faults as it began to those as it ended. Within it a run was played, from and to memory, which
 -- read all of the load's directory and script; what each disk went through meanwhile is what it did in that run.
-pub record LoadRan {D : Type 0} (tells : Type 0) (sight : D → Sight) (count : ℕ) (screens : List (List Patterns))
+pub record LoadRan {D : Type 0} (tells : Type 0) (sight : D → Sight) (faults : D → ℕ) (count : ℕ) (screens : List (List Patterns))
     (status : Status) (before after : Option Bytes) (home left : ℕ → Option D) (old new : Counts) : Type 0 where
   pub played : Status
   pub lines : Bytes  -- what it wrote, which is dropped
   pub source : ℕ  -- the counts of faults of what it read from and wrote to, in memory, which begin at 0
   pub sink : ℕ
-  pub through : RanThrough tells sight (load_asked screens) played (Some (load_input count)) (Some []) (Some lines) home left
+  pub through : RanThrough tells sight faults (load_asked screens) played (Some (load_input count)) (Some []) (Some lines) home left
       (counts_with old 0 0) (counts_with new source sink)
   pub told : LoadTells status played (written_behind count played lines (world through.ran.happened)
       (outcome_of (load_asked screens) through.ran.happened).after) before after

@@ -50,7 +50,7 @@ pub fn a_status_says_what_a_load_told<P: Depot>()
     // written.
     ensures done { (screens : List (List Patterns)) (count : ℕ) (before after : Option Bytes) (depot left : P) (old new : Counts)
         → count ≤ MOST_MESSAGES
-        → (load : LoadRan (P.tells × P.D.tells) P.D.sight count screens statuses.Done before after (P.home depot)
+        → (load : LoadRan (P.tells × P.D.tells) P.D.sight P.D.faults count screens statuses.Done before after (P.home depot)
         (P.home left) old new)
         → (load.through.ran.happened.opening.next ≡ NoMore) × (length load.through.ran.happened.lucks ≡ length (commands_of count))
         × (after ≡ followed_by before (state_text count (world load.through.ran.happened)
@@ -58,7 +58,7 @@ pub fn a_status_says_what_a_load_told<P: Depot>()
     // Without faults only a disk that isn't empty, or want of memory, keeps it from that.
     ensures quiet { (screens : List (List Patterns)) (count : ℕ) (status : Status) (before after : Option Bytes) (depot left : P)
         (old new : Counts)
-        → LoadRan (P.tells × P.D.tells) P.D.sight count screens status before after (P.home depot) (P.home left) old new
+        → LoadRan (P.tells × P.D.tells) P.D.sight P.D.faults count screens status before after (P.home depot) (P.home left) old new
         → NoFaults old new → IsQuiet status }
 {
     a_load_has_its_directory();

@@ -12,9 +12,10 @@ use Rattle.pec_network.specs.Network.{NetworkState, sites, sites_of}
 use Rattle.pec_network.specs.OfProviders.{ChronicleState, FollowsSo, ProviderState, Stands}
 use Rattle.pec_posts.specs.Arrivals.{Waiting}
 use Rattle.pec_screen.specs.Verdicts.{Patterns}
-use Rattle.pec_runs.specs.Steps.{AreSeen, CameFrom, IsMoment, State}
+use Rattle.pec_runs.specs.Steps.{AreCounted, AreSeen, CameFrom, IsMoment, State}
 use Rattle.pec_playing.specs.Doing.{Carries}
-use Rattle.pec_playing.specs.Points.{chronicles_in, point_of}
+use Rattle.pec_playing.specs.Playing.{count_or}
+use Rattle.pec_playing.specs.Points.{chronicles_in, point_of, state_in}
 
 abbrev chronicle_in : {D : Type 0} → Option (ProviderState D) → Option (ChronicleState D)
 chronicle_in {D} found = option_map (λ (provider : ProviderState D). provider.chronicle) found
@@ -81,6 +82,14 @@ module _ {D S : Type 0} (sight : D → Sight) (tells : Type 0) (trade : Trade) (
         in subst (λ (state : ChronicleState D). CameFrom trade sight (sites old) number (here.chronicles number) state) x.2
         (came_so sound number x.0 x.1);
   })
+
+-- counts of faults are those of the disks
+pub state_counted : {D S : Type 0} (faults : D → ℕ) (elsewhere : ℕ → ℕ) (spares : List Patterns) (network : NetworkState D S)
+    → AreCounted faults (state_in faults elsewhere spares network)
+state_counted {D} faults elsewhere spares network number one is =
+    let x = there network.providers number one is
+    in ap (λ (found : Option (ProviderState D)). count_or faults (elsewhere number) found) x.1
+    ∙ ap (λ (state : ChronicleState D). faults state.disk) x.2
 
 -- nothing but what waits is another
 pub carries_providers : {D S : Type 0} (sight : D → Sight) (tells : Type 0) (trade : Trade) (old new : NetworkState D S)

@@ -25,20 +25,20 @@ use Rattle.pec_playing.specs.declared.stops.Stop.TheVariants as stops
 use Rattle.pec_playing.proofs.CountLemmas.{counts_later}
 
 -- What pec_runs says of an act from one point to another.
-pub record ActLaws {D : Type 0} (sight : D → Sight) (trade : Trade) (providers : List Provider) (tells : Type 0)
-    (command : Command) (here there : Point D) : Type 0 where
+pub record ActLaws {D : Type 0} (sight : D → Sight) (faults : D → ℕ) (trade : Trade) (providers : List Provider)
+    (tells : Type 0) (command : Command) (here there : Point D) : Type 0 where
   pub played_so : (luck : Luck) (stop : Option runs.Stop)
       → IsCall trade tells here.state.sites here.state.counts there.state.counts command luck there.state.sites
       → IsHanded trade here.state.spares here.state.sites command luck there.state.spares
       → NoneFell here there
       → IsWritten (answer_text providers (played trade luck here.state.sites command).answer) here there stop
-      → Goes trade providers tells sight (Plays command ∷ []) here there stop
+      → Goes trade providers tells sight faults (Plays command ∷ []) here there stop
   pub stopped_so : LeavesOff trade here.state.sites (Some command) there.state.sites → NoneFell here there
-      → there.held ≡ here.held → Goes trade providers tells sight (Plays command ∷ []) here there (Some NoMemory)
+      → there.held ≡ here.held → Goes trade providers tells sight faults (Plays command ∷ []) here there (Some NoMemory)
   pub strayed_so : (text : Bytes) (stop : Option runs.Stop) → MayStray tells here.state.sites (Some command)
       → NoneFell here there → there.held ≡ followed_by here.held text
       → (stop ≡ Some WriteFault → HasRisen here.faults there.faults)
-      → Goes trade providers tells sight (Plays command ∷ []) here there stop
+      → Goes trade providers tells sight faults (Plays command ∷ []) here there stop
 
 followed_nothing : (held : Option Bytes) → followed_by held [] ≡ held
 followed_nothing None = refl
@@ -54,7 +54,7 @@ module _ {D S : Type 0} (sight : D → Sight) (count : D → ℕ) (disks : Type 
   there = point_of count elsewhere left new after upto
 
   abbrev GoesSo : Option runs.Stop → Type 0
-  GoesSo stop = Goes trade (providers_of old.kept) tells sight (Plays command ∷ []) here there stop
+  GoesSo stop = Goes trade (providers_of old.kept) tells sight count (Plays command ∷ []) here there stop
 
   fell : NoneFell here there
   fell = record {
@@ -82,7 +82,7 @@ module _ {D S : Type 0} (sight : D → Sight) (count : D → ℕ) (disks : Type 
       → IsHanded trade spares (sites old) command luck left
   handed_so hands leaves luck = record { last = hands; behind = leaves luck }
 
-  module _ (laws : ActLaws sight trade (providers_of old.kept) tells command here there) where
+  module _ (laws : ActLaws sight count trade (providers_of old.kept) tells command here there) where
     -- its lines were written
     pub play_ends : HandsIn spares command → LeavesSpares trade spares (sites old) command left → (text : Bytes)
         → HasPlayed tells trade (providers_of old.kept) (sites old) here.state.counts there.state.counts command text

@@ -49,5 +49,5 @@ abbrev pub GoesBy : {D S : Type 0} → Type 0 → (D → Sight) → (D → ℕ) 
     → (old new : NetworkState D S) → (before after : Option Bytes) → (from upto : ℕ) → Option runs.Stop → Type 0
 GoesBy tells sight faults seals command spares left old new before after from upto stop =
     (tells → AllStand sight old.providers) → (elsewhere : ℕ → ℕ)
-    → Goes (world_of seals old) (providers_of old.kept) tells sight (Plays command ∷ [])
+    → Goes (world_of seals old) (providers_of old.kept) tells sight faults (Plays command ∷ [])
     (point_of faults elsewhere spares old before from) (point_of faults elsewhere left new after upto) stop

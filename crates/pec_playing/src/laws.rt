@@ -14,7 +14,7 @@ ghost use Rattle.pec_script.specs.LinesReading.{command_of};
 ghost use Rattle.pec_script.specs.declared.commands.Command.{Command as Written};
 ghost use Rattle.pec_runs.specs.ScriptLines.{longest_line};
 ghost use Rattle.pec_runs.specs.Plays.{RoseBy, faults_at};
-ghost use Rattle.pec_runs.specs.Steps.{IsMoment};
+ghost use Rattle.pec_runs.specs.Steps.{AreCounted, IsMoment};
 ghost use Rattle.pec_playing.specs.Doing.{Carries, Keeps};
 ghost use Rattle.pec_playing.specs.Playing.{CanPlay, counts_in};
 ghost use Rattle.pec_playing.specs.Points.{state_in};
@@ -52,9 +52,11 @@ pub fn what_is_kept_is_kept_on<D: Disk, S: Sealer>()
 {}
 
 /// Where the providers of a network carry on, a crash leaves at each moment of that what may follow, as a run says it
-/// of a step.
+/// of a step; and the counts of faults of its state are those of its disks.
 pub fn what_carries_on_is_a_moment<D: Disk, S: Sealer>()
-    ensures { D.tells → (trade : Trade) (old new : NetworkState D S) → length new.providers ≡ length old.providers
+    ensures counted { (network : NetworkState D S) (elsewhere : ℕ → ℕ) (spares : List Patterns)
+        → AreCounted D.faults (state_in D.faults elsewhere spares network) }
+    ensures moment { D.tells → (trade : Trade) (old new : NetworkState D S) → length new.providers ≡ length old.providers
         → Carries D.sight D.tells trade old new → (elsewhere : ℕ → ℕ) (spares left : List Patterns)
         → IsMoment trade D.sight (state_in D.faults elsewhere spares old) (state_in D.faults elsewhere left new) }
 {

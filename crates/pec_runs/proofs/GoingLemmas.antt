@@ -13,7 +13,7 @@ use Rattle.pec_plays.specs.Turns.{Whole}
 use Rattle.pec_runs.specs.AnswerLines.{answer_text}
 use Rattle.pec_runs.specs.Plays.{MayStray}
 use Rattle.pec_runs.specs.Ran.{Behind, LeavesOff}
-use Rattle.pec_runs.specs.Steps.{Act, AllMoments, AreMoments, AreSteps, Climbs, EndsSo, Goes, GoesAstray, Hands, IsCall, IsHanded, IsMoment, IsStep, IsWritten}
+use Rattle.pec_runs.specs.Steps.{Act, AllCounted, AllMoments, AreCounted, AreMoments, AreSteps, Climbs, EndsSo, Goes, GoesAstray, Hands, IsCall, IsHanded, IsMoment, IsStep, IsWritten}
 use Rattle.pec_runs.specs.Steps.{NoMemory, NoneFell, Plays, Point, ReadFault, State, Step, Stop, WriteFault, Writes, acts_of, next_of, state_behind}
 use Rattle.pec_runs.specs.Steps.{text_by, text_of}
 
@@ -35,6 +35,17 @@ module _ {D : Type 0} where
   steps_append trade tells here [] more are then = then
   steps_append trade tells here (step ∷ steps) more are then =
       (are.0, steps_append trade tells step.behind steps more are.1 then)
+
+  pub counted_append : (faults : D → ℕ) (steps more : List (Step D)) → AllCounted faults steps → AllCounted faults more
+      → AllCounted faults (steps ++ more)
+  counted_append faults [] more are then = then
+  counted_append faults (step ∷ steps) more are then = (are.0, counted_append faults steps more are.1 then)
+
+  -- so are the last of them
+  pub counted_behind : (faults : D → ℕ) (here : State D) (steps : List (Step D)) → AreCounted faults here
+      → AllCounted faults steps → AreCounted faults (state_behind here steps)
+  counted_behind faults here [] first are = first
+  counted_behind faults here (step ∷ steps) first are = counted_behind faults step.behind steps are.0 are.1
 
   text_append : (trade : Trade) (providers : List Provider) (here : State D) (steps more : List (Step D))
       → text_of trade providers here (steps ++ more)
@@ -104,7 +115,7 @@ risen_since a b c l k risen = λ h. by_size h (cases_lt b (2 ^ 64 - 1))
     by_size h (inl small) = let x : b < c = risen small in omega (arith, x, l)
     by_size h (inr large) = omega (arith, large, h, k)
 
-wrote_more : (before after : Option Bytes) (done all : Bytes) → WrotePart (followed_by before done) after all
+pub wrote_more : (before after : Option Bytes) (done all : Bytes) → WrotePart (followed_by before done) after all
     → WrotePart before after (done ++ all)
 wrote_more before after done all part = record {
   rest = part.rest;
@@ -115,7 +126,8 @@ wrote_more before after done all part = record {
   };
 }
 
-module _ (trade : Trade) (providers : List Provider) (tells : Type 0) {D : Type 0} (sight : D → Sight) where
+module _ (trade : Trade) (providers : List Provider) (tells : Type 0) {D : Type 0} (sight : D → Sight)
+    (faults : D → ℕ) where
   -- ---- ends
 
   abbrev Ends : State D → Bytes → List Act → Option Bytes → Point D → Option Stop → Type 0
@@ -192,7 +204,7 @@ module _ (trade : Trade) (providers : List Provider) (tells : Type 0) {D : Type 
   }
 
   module _ (done acts : List Act) (first here there : Point D) (stop : Option Stop)
-      (went : Goes trade providers tells sight done first here None) (goes : Goes trade providers tells sight acts
+      (went : Goes trade providers tells sight faults done first here None) (goes : Goes trade providers tells sight faults acts
       here there stop) where
     blamed : stop ≡ Some WriteFault → HasRisen first.faults there.faults
     blamed e = risen_since first.faults here.faults there.faults went.later.output goes.later.output (goes.blame e)
@@ -200,7 +212,7 @@ module _ (trade : Trade) (providers : List Provider) (tells : Type 0) {D : Type 
     -- all of the first were done
     done_all : went.left ≡ [] → here.state ≡ state_behind first.state went.steps
         → here.held ≡ followed_by first.held (text_of trade providers first.state went.steps)
-        → Goes trade providers tells sight (done ++ acts) first there stop
+        → Goes trade providers tells sight faults (done ++ acts) first there stop
     done_all none state held =
         let behind = behind_append first.state went.steps goes.steps
         in let same = ap (λ (s : State D). state_behind s goes.steps) state ∙ sym behind
@@ -213,6 +225,9 @@ module _ (trade : Trade) (providers : List Provider) (tells : Type 0) {D : Type 
               goes.acts_are));
           each = steps_append trade tells first.state went.steps goes.steps went.each
               (subst (λ (s : State D). AreSteps trade tells s goes.steps) state goes.each);
+          counted = λ first_so. counted_append faults went.steps goes.steps (went.counted first_so)
+              (goes.counted (subst (AreCounted faults) (sym state)
+              (counted_behind faults first.state went.steps first_so (went.counted first_so))));
           moments = λ told. moments_joined trade sight first.state here.state there.state went.steps goes.steps state
               (went.moments told) (goes.moments told);
           ends = subst (λ (s : State D). Ends s (text_of trade providers first.state (went.steps ++ goes.steps))
@@ -240,7 +255,7 @@ module _ (trade : Trade) (providers : List Provider) (tells : Type 0) {D : Type 
     -- once it strayed it may go on in any way
     strayed_on : GoesAstray trade providers tells sight (state_behind first.state went.steps)
         (text_of trade providers first.state went.steps) went.left first.held here
-        → Goes trade providers tells sight (done ++ acts) first there stop
+        → Goes trade providers tells sight faults (done ++ acts) first there stop
     strayed_on astray =
         let before = astray_before _ _ went.left acts first.held here astray
         in let text = ends_text _ _ goes.left here.held there stop goes.ends
@@ -249,6 +264,7 @@ module _ (trade : Trade) (providers : List Provider) (tells : Type 0) {D : Type 
           left = went.left ++ acts;
           acts_are = acts_left (acts_of went.steps) went.left done acts went.acts_are;
           each = went.each;
+          counted = went.counted;
           moments = λ told. absurd (astray.strays.untold told);
           ends = inr (record {
             strays = before.strays;
@@ -265,25 +281,26 @@ module _ (trade : Trade) (providers : List Provider) (tells : Type 0) {D : Type 
         }
 
     goes_joined : Ends (state_behind first.state went.steps) (text_of trade providers first.state went.steps) went.left
-        first.held here None → Goes trade providers tells sight (done ++ acts) first there stop
+        first.held here None → Goes trade providers tells sight faults (done ++ acts) first there stop
     goes_joined (inl ends) = done_all ends.0 ends.1 ends.2
     goes_joined (inr astray) = strayed_on astray
 
   -- ---- the laws
 
   pub goes_on : (done acts : List Act) (first here there : Point D) (stop : Option Stop)
-      → Goes trade providers tells sight done first here None → Goes trade providers tells sight acts here there stop
-      → Goes trade providers tells sight (done ++ acts) first there stop
+      → Goes trade providers tells sight faults done first here None → Goes trade providers tells sight faults acts here there stop
+      → Goes trade providers tells sight faults (done ++ acts) first there stop
   goes_on done acts first here there stop went goes = goes_joined done acts first here there stop went goes went.ends
 
   pub stops_before : (some left : List Act) (here there : Point D) (stop : Stop)
-      → Goes trade providers tells sight some here there (Some stop)
-      → Goes trade providers tells sight (some ++ left) here there (Some stop)
+      → Goes trade providers tells sight faults some here there (Some stop)
+      → Goes trade providers tells sight faults (some ++ left) here there (Some stop)
   stops_before some left here there stop goes = record {
     steps = goes.steps;
     left = goes.left ++ left;
     acts_are = acts_left (acts_of goes.steps) goes.left some left goes.acts_are;
     each = goes.each;
+    counted = goes.counted;
     moments = goes.moments;
     ends = ends_before _ _ goes.left left here.held there stop goes.ends;
     since = goes.since;
@@ -291,12 +308,13 @@ module _ (trade : Trade) (providers : List Provider) (tells : Type 0) {D : Type 
     blame = goes.blame;
   }
 
-  pub goes_nowhere : (first : Point D) → Goes trade providers tells sight [] first first None
+  pub goes_nowhere : (first : Point D) → Goes trade providers tells sight faults [] first first None
   goes_nowhere first = record {
     steps = [];
     left = [];
     acts_are = refl;
     each = tt;
+    counted = λ first. tt;
     moments = λ told. record { each = tt; last = inl refl };
     ends = inl (refl, refl, followed_nothing first.held);
     since = λ p. omega arith;
@@ -311,15 +329,16 @@ module _ (trade : Trade) (providers : List Provider) (tells : Type 0) {D : Type 
 
   -- an act that was done, and its lines written
   one_step : (act : Act) (luck : Luck) (here there : Point D) (behind : State D) (text : Bytes) (stop : Option Stop)
-      → IsStep trade tells here.state act luck behind → (tells → IsMoment trade sight here.state behind)
-      → there.state ≡ behind → text_by trade providers here.state.sites act luck ≡ text → NoneFell here there
+      → IsStep trade tells here.state act luck behind → (AreCounted faults here.state → AreCounted faults behind)
+      → (tells → IsMoment trade sight here.state behind) → there.state ≡ behind → text_by trade providers here.state.sites act luck ≡ text → NoneFell here there
       → IsWritten text here there stop
-      → Goes trade providers tells sight (act ∷ []) here there stop
-  one_step act luck here there behind text stop is moment same lines later wrote = record {
+      → Goes trade providers tells sight faults (act ∷ []) here there stop
+  one_step act luck here there behind text stop is counted moment same lines later wrote = record {
     steps = step_of act luck behind ∷ [];
     left = [];
     acts_are = refl;
     each = (is, tt);
+    counted = λ first. (counted first, tt);
     moments = λ told. record { each = (moment told, tt); last = inl same };
     ends = inl (by_stop stop wrote);
     since = λ p. let e = ap (λ (s : State D). s.counts p) same in omega (arith, e);
@@ -349,28 +368,31 @@ module _ (trade : Trade) (providers : List Provider) (tells : Type 0) {D : Type 
   pub one_played : (command : Command) (luck : Luck) (here there : Point D) (stop : Option Stop)
       → IsCall trade tells here.state.sites here.state.counts there.state.counts command luck there.state.sites
       → IsHanded trade here.state.spares here.state.sites command luck there.state.spares
-      → (tells → IsMoment trade sight here.state there.state) → NoneFell here there
+      → AreCounted faults there.state → (tells → IsMoment trade sight here.state there.state) → NoneFell here there
       → IsWritten (answer_text providers (played trade luck here.state.sites command).answer) here there stop
-      → Goes trade providers tells sight (Plays command ∷ []) here there stop
-  one_played command luck here there stop is handed moment later wrote =
-      one_step (Plays command) luck here there there.state _ stop (is, handed) moment refl refl later wrote
+      → Goes trade providers tells sight faults (Plays command ∷ []) here there stop
+  one_played command luck here there stop is handed counted moment later wrote =
+      one_step (Plays command) luck here there there.state _ stop (is, handed) (λ first. counted) moment refl refl later
+      wrote
 
   pub one_written : (text : Bytes) (here there : Point D) (stop : Option Stop) → there.state ≡ here.state
       → NoneFell here there → IsWritten text here there stop
-      → Goes trade providers tells sight (Writes text ∷ []) here there stop
+      → Goes trade providers tells sight faults (Writes text ∷ []) here there stop
   one_written text here there stop same later wrote =
-      one_step (Writes text) quiet here there here.state text stop refl (λ told. inl refl) same refl later wrote
+      one_step (Writes text) quiet here there here.state text stop refl (λ first. first) (λ told. inl refl) same refl
+      later wrote
 
   -- memory ran out in a command, and nothing was written
   pub one_stopped : (command : Command) (here there : Point D)
       → LeavesOff trade here.state.sites (Some command) there.state.sites
       → (tells → IsMoment trade sight here.state there.state) → NoneFell here there → there.held ≡ here.held
-      → Goes trade providers tells sight (Plays command ∷ []) here there (Some NoMemory)
+      → Goes trade providers tells sight faults (Plays command ∷ []) here there (Some NoMemory)
   one_stopped command here there left moment later same = record {
     steps = [];
     left = Plays command ∷ [];
     acts_are = refl;
     each = tt;
+    counted = λ first. tt;
     moments = λ told. record { each = tt; last = moment told };
     ends = inl (λ e. cc, left, same ∙ followed_nothing here.held);
     since = later.disks;
@@ -382,12 +404,13 @@ module _ (trade : Trade) (providers : List Provider) (tells : Type 0) {D : Type 
   pub one_strayed : (command : Command) (here there : Point D) (text : Bytes) (stop : Option Stop)
       → MayStray tells here.state.sites (Some command) → NoneFell here there → there.held ≡ followed_by here.held text
       → (stop ≡ Some WriteFault → HasRisen here.faults there.faults)
-      → Goes trade providers tells sight (Plays command ∷ []) here there stop
+      → Goes trade providers tells sight faults (Plays command ∷ []) here there stop
   one_strayed command here there text stop strays later held blame = record {
     steps = [];
     left = Plays command ∷ [];
     acts_are = refl;
     each = tt;
+    counted = λ first. tt;
     moments = λ told. absurd (strays.untold told);
     ends = inr (record { strays = strays; more = text; held = held });
     since = later.disks;
@@ -397,19 +420,20 @@ module _ (trade : Trade) (providers : List Provider) (tells : Type 0) {D : Type 
 
   -- a text is written that is none
   pub writes_none : (text : Bytes) (here : Point D) → text ≡ []
-      → Goes trade providers tells sight (Writes text ∷ []) here here None
+      → Goes trade providers tells sight faults (Writes text ∷ []) here here None
   writes_none text here none =
       one_written text here here None refl (record { disks = λ p. omega arith; output = omega arith })
       (followed_nothing here.held ∙ ap (followed_by here.held) (sym none))
 
   -- the run was stopped by its input or for want of memory, and nothing was done
   pub halts : (acts : List Act) (here : Point D) (stop : Stop) → acts ≢ [] → (stop ≡ WriteFault → ⊥)
-      → Goes trade providers tells sight acts here here (Some stop)
+      → Goes trade providers tells sight faults acts here here (Some stop)
   halts acts here stop some other = record {
     steps = [];
     left = acts;
     acts_are = refl;
     each = tt;
+    counted = λ first. tt;
     moments = λ told. record { each = tt; last = inl refl };
     ends = inl (by_stop stop other);
     since = λ p. omega arith;
@@ -426,9 +450,9 @@ module _ (trade : Trade) (providers : List Provider) (tells : Type 0) {D : Type 
   -- ---- loops
 
   pub climbs_on : (acts some left : List Act) (first here there : Point D)
-      → Climbs trade providers tells sight acts (some ++ left) first here
-      → Goes trade providers tells sight some here there None
-      → Climbs trade providers tells sight acts left first there
+      → Climbs trade providers tells sight faults acts (some ++ left) first here
+      → Goes trade providers tells sight faults some here there None
+      → Climbs trade providers tells sight faults acts left first there
   climbs_on acts some left first here there climbs goes = record {
     done = climbs.done ++ some;
     acts_are = append_assoc climbs.done some left ∙ climbs.acts_are;
@@ -436,16 +460,16 @@ module _ (trade : Trade) (providers : List Provider) (tells : Type 0) {D : Type 
   }
 
   pub climbs_stop : (acts some left : List Act) (first here there : Point D) (stop : Stop)
-      → Climbs trade providers tells sight acts (some ++ left) first here
-      → Goes trade providers tells sight some here there (Some stop)
-      → Goes trade providers tells sight acts first there (Some stop)
+      → Climbs trade providers tells sight faults acts (some ++ left) first here
+      → Goes trade providers tells sight faults some here there (Some stop)
+      → Goes trade providers tells sight faults acts first there (Some stop)
   climbs_stop acts some left first here there stop climbs goes =
-      subst (λ (l : List Act). Goes trade providers tells sight l first there (Some stop)) climbs.acts_are
+      subst (λ (l : List Act). Goes trade providers tells sight faults l first there (Some stop)) climbs.acts_are
       (goes_on climbs.done (some ++ left) first here there (Some stop) climbs.goes
       (stops_before some left here there stop goes))
 
-  pub climbs_end : (acts : List Act) (first here : Point D) → Climbs trade providers tells sight acts [] first here
-      → Goes trade providers tells sight acts first here None
+  pub climbs_end : (acts : List Act) (first here : Point D) → Climbs trade providers tells sight faults acts [] first here
+      → Goes trade providers tells sight faults acts first here None
   climbs_end acts first here climbs =
-      subst (λ (l : List Act). Goes trade providers tells sight l first here None)
+      subst (λ (l : List Act). Goes trade providers tells sight faults l first here None)
       (sym (append-nil climbs.done) ∙ climbs.acts_are) climbs.goes

@@ -1,5 +1,5 @@
 -- The headline: what stands at each command of a script.
-use Rattle.std.proofs.Common.{◌≡◌, ℕ, ◌+◌, ◌≤◌, List, [], ◌∷◌, ◌++◌, Bool, true, false, inl, inr, length, take, refl, ap, sym, subst, ◌∙◌, arith, nat_lt, Option, Some, None}
+use Rattle.std.proofs.Common.{◌≡◌, ℕ, zero, suc, ◌+◌, ◌≤◌, List, [], ◌∷◌, ◌++◌, Bool, true, false, inl, inr, length, take, refl, ap, sym, subst, ◌∙◌, arith, nat_lt, Option, Some, None}
 use Rattle.std.specs.Prelude.{Contains, IsSome, slice_get, if◌then◌else◌}
 use Rattle.std.specs.List.{find}
 use Rattle.std.proofs.lemmas.Bool.{cases_lt, false≢true}
@@ -137,6 +137,24 @@ module _ (trade : Trade) (laws : PlayLaws trade) where
       (next_reached trade laws.stays sites after next would)
       (reached_behind lucks after commands (laws.commands luck sites c sound given.0)
       (would_meet trade laws.stays sites after next would) given.1)
+
+  -- the ledger behind a command is reached from the one before it
+  pub onward_at : (number : ℕ) (lucks : List Luck) (sites : List Site) (commands : List Command) → Sound trade sites
+      → WouldMeet trade sites → AllUnforged trade lucks sites commands
+      → IsReached trade (journals_of (state_before trade lucks sites commands number))
+      (journals_of (state_before trade lucks sites commands (suc number)))
+  onward_at zero [] sites commands sound would given = reached_itself trade laws.stays (journals_of sites)
+  onward_at zero (luck ∷ lucks) sites [] sound would given = reached_itself trade laws.stays (journals_of sites)
+  onward_at zero (luck ∷ lucks) sites (c ∷ commands) sound would given =
+      next_reached trade laws.stays sites (played trade luck sites c).after (laws.goes_on luck sites c sound given.0)
+      would
+  onward_at (suc number) [] sites commands sound would given = reached_itself trade laws.stays (journals_of sites)
+  onward_at (suc number) (luck ∷ lucks) sites [] sound would given =
+      reached_itself trade laws.stays (journals_of sites)
+  onward_at (suc number) (luck ∷ lucks) sites (c ∷ commands) sound would given =
+      let after = (played trade luck sites c).after
+      in onward_at number lucks after commands (laws.commands luck sites c sound given.0)
+      (would_meet trade laws.stays sites after (laws.goes_on luck sites c sound given.0) would) given.1
 
   pub stands : IsTrade trade → (lucks : List Luck) (sites : List Site) (commands : List Command) → Sound trade sites
       → WouldMeet trade sites

@@ -1,5 +1,6 @@
 pub mod BeginningLemmas
 pub mod ClimbLemmas
+pub mod CompleteLemmas
 pub mod CutLemmas
 pub mod DeliveredLemmas
 pub mod GoingLemmas

@@ -1,13 +1,16 @@
 -- A run that is killed at a moment of a step.
-use Rattle.std.proofs.Common.{◌≡◌, ℕ, zero, suc, ◌<◌, ◌≤◌, inl, inr, List, [], ◌∷◌, ◌++◌, length, ap, sym, subst, ◌∙◌, arith, Option, Some}
+use Rattle.std.proofs.Common.{◌≡◌, ℕ, zero, suc, ◌<◌, ◌≤◌, inl, inr, List, [], ◌∷◌, ◌++◌, length, take, refl, ap, sym, subst, ◌∙◌, arith, Option, Some}
 use Rattle.std.specs.Prelude.{slice_index_or}
-use Rattle.std.proofs.lemmas.List.{append-nil}
+use Rattle.std.proofs.lemmas.List.{append-nil, append_assoc}
 use Rattle.std.proofs.lemmas.Option.{same_Some}
+use Rattle.pec_runs.proofs.GoingLemmas.{wrote_more}
 use Rattle.pec_types.specs.Bytes.{Bytes}
 use Rattle.pec_outside.specs.DiskModel.{Sight}
+use Rattle.pec_outside.specs.Flow.{WrotePart, followed_by}
+use Rattle.pec_directory.specs.Directory.{Provider}
 use Rattle.pec_records.specs.declared.entries.Entry.{Entry}
 use Rattle.pec_ledger.specs.Ledger.{Fit}
-use Rattle.pec_ledger.specs.Network.{FollowsState, Site, Sound, chosen, journal_at, journals_in}
+use Rattle.pec_ledger.specs.Network.{FollowsState, Site, Sound, chosen, interrupted_at, journal_at, journals_in}
 use Rattle.pec_ledger.specs.Trade.{Trade}
 use Rattle.pec_chronicle.specs.Carrying.{FollowsSo}
 use Rattle.pec_chronicle.specs.Chronicle.{ChronicleState, IsJournalOf, Stands}
@@ -15,9 +18,10 @@ use Rattle.pec_plays.specs.Commands.{Command, Luck, played}
 use Rattle.pec_plays.specs.Scripts.{IsUnforged}
 use Rattle.pec_ledger.specs.TradeLaws.{IsTrade}
 use Rattle.pec_runs.specs.Moves.{KeepSound}
-use Rattle.pec_runs.specs.Moments.{AllStandIn, AreHonest, IsHonestAct, IsKilledIn, state_at}
+use Rattle.pec_runs.specs.Moments.{AllStandIn, AreHonest, HasTold, HoldsAll, IsHonestAct, IsKilledAt, IsKilledIn, Phase, Playing, Writing}
+use Rattle.pec_runs.specs.Moments.{lines_at, number_told, state_at, told_before}
 use Rattle.pec_runs.specs.Steps.{Act, AllMoments, AreSeen, AreSteps, Hands, IsMoment, IsStep, Plays}
-use Rattle.pec_runs.specs.Steps.{State, Step, Writes}
+use Rattle.pec_runs.specs.Steps.{State, Step, Writes, text_by}
 
 -- what pec_plays says of commands, in one world
 abbrev pub StaysSound : Trade → Type 0
@@ -159,3 +163,59 @@ module _ (trade : Trade) {D : Type 0} (sight : D → Sight) where
         in let follows = killed_follows number here there steps all within_steps sound stand seen provider this.0 this.1
         in subst (λ (list : List Entry). FollowsState trade (state_at number here there steps).sites provider list)
         (one_list follows.0 (slice_index_or journals provider []) this.0 follows.2 this.2) follows.1)
+
+    -- ---- what was told
+
+    holds_all : (sites : List Site) (provider : ℕ) (bytes : Bytes) → FollowsSo trade sites provider bytes
+        → HoldsAll sites provider bytes
+    holds_all sites provider bytes follows = record {
+      more = chosen follows.1.choice (interrupted_at sites provider) ++ follows.1.further;
+      journal = subst (λ (list : List Entry). IsJournalOf list bytes) follows.1.is follows.2;
+    }
+
+    pub told_kept : (phase : Phase) (number : ℕ) (here there : State D) (steps : List (Step D))
+        → AllMoments trade sight here there steps → number ≤ length steps
+        → Sound trade (state_at number here there steps).sites
+        → AllStandIn sight (state_at number here there steps) → AreSeen (state_at number here there steps)
+        → (provider : ℕ) (bytes : Bytes) → IsKilledAt sight phase number here there steps provider bytes
+        → HoldsAll (state_at (number_told phase number) here there steps).sites provider bytes
+    told_kept Playing number here there steps all within_steps sound stand seen provider bytes killed =
+        holds_all _ provider bytes
+        (killed_follows number here there steps all within_steps sound stand seen provider bytes killed)
+    told_kept Writing number here there steps all within_steps sound stand seen provider bytes killed =
+        let before = state_at number here there steps
+        in let behind = state_at (suc number) here there steps
+        in let moment = moment_at number here there steps all within_steps
+        in holds_all _ provider bytes
+        (still behind provider killed.0 killed.1 (seen_on before behind moment seen)
+        (stands_on before behind moment sound stand provider killed.0 killed.1) bytes killed.2)
+
+module _ (trade : Trade) (providers : List Provider) {D : Type 0} where
+  -- the lines of one step more
+  told_on : (number : ℕ) (here : State D) (steps : List (Step D))
+      → told_before trade providers number here steps ++ lines_at trade providers number here steps
+      ≡ told_before trade providers (suc number) here steps
+  told_on zero here [] = refl
+  told_on (suc number) here [] = refl
+  told_on zero here (step ∷ steps) = sym (append-nil (text_by trade providers here.sites step.act step.luck))
+  told_on (suc number) here (step ∷ steps) =
+      append_assoc (text_by trade providers here.sites step.act step.luck)
+      (told_before trade providers number step.behind steps) (lines_at trade providers number step.behind steps)
+      ∙ ap (λ (t : Bytes). text_by trade providers here.sites step.act step.luck ++ t)
+      (told_on number step.behind steps)
+
+  pub told_front : (phase : Phase) (number : ℕ) (here : State D) (steps : List (Step D)) (before held : Option Bytes)
+      → HasTold trade providers phase number here steps before held
+      → WrotePart before held (told_before trade providers (number_told phase number) here steps)
+  told_front Playing number here steps before held told = record {
+    rest = [];
+    wrote = record {
+      done = told_before trade providers number here steps;
+      held = told;
+      text = sym (append-nil (told_before trade providers number here steps));
+    };
+  }
+  told_front Writing number here steps before held told =
+      subst (λ (t : Bytes). WrotePart before held t) (told_on number here steps)
+      (wrote_more before held (told_before trade providers number here steps)
+      (lines_at trade providers number here steps) told)

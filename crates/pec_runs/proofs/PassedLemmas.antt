@@ -37,9 +37,9 @@ over_not_begun end form script e = cc
 halted_not_begun : (form : Form) (script : Script) → Halted ≡ Begun form script → ⊥
 halted_not_begun form script e = cc
 
-module _ {D : Type 0} (tells : Type 0) (sight : D → Sight) (asked : Asked) (status : Status)
+module _ {D : Type 0} (tells : Type 0) (sight : D → Sight) (faults : D → ℕ) (asked : Asked) (status : Status)
     (unread before after : Option Bytes) (home left : ℕ → Option D) (old new : Counts)
-    (ran : RanThrough tells sight asked status unread before after home left old new) where
+    (ran : RanThrough tells sight faults asked status unread before after home left old new) where
   abbrev happened : Happened
   happened = ran.ran.happened
 
@@ -47,7 +47,7 @@ module _ {D : Type 0} (tells : Type 0) (sight : D → Sight) (asked : Asked) (st
   stage = stage_of asked happened.hands happened.early happened.parts
 
   abbrev Played : Form → Script → Type 0
-  Played form script = PlaysThrough tells sight home left old.disks new.disks happened form script
+  Played form script = PlaysThrough tells sight faults home left old.disks new.disks before after happened form script
 
   module _ (form : Form) (script : Script) (begun : stage ≡ Begun form script) where
     pub world_is : IsTrade (world happened)
@@ -76,19 +76,19 @@ module _ {D : Type 0} (tells : Type 0) (sight : D → Sight) (asked : Asked) (st
       (ended : (trade : Trade) → IsTrade trade → (home left found : ℕ → Option D) (from upto : ℕ → ℕ) (form : Form)
       (screens : List (List Patterns)) (opening : Opening) → IsOpening trade (disks_at tells sight home) form opening → opening.next ≡ NoMore
       → AreAtHome trade home
-      → MovesThrough tells sight home left from upto trade form screens opening.journals
+      → MovesThrough tells sight faults home left from upto trade form screens opening.journals
       → AreFoundAs tells sight trade left found → Passes trade (held tells sight home) (held tells sight found))
-      (moves : (form : Form) (goes : GoesThrough tells sight home left old.disks new.disks (world happened) form
+      (moves : (form : Form) (goes : GoesThrough tells sight faults home left old.disks new.disks (world happened) form
       happened.screens happened.opening.journals) → AreHonest (world happened) goes.first goes.steps
       → IsTrade (world happened) → KeepSound (world happened) goes.first goes.steps)
       (found : ℕ → Option D) where
     abbrev Passed : Trade → Type 0
     Passed trade = Passes trade (held tells sight home) (held tells sight found)
 
-    moves_so : (form : Form) (goes : GoesThrough tells sight home left old.disks new.disks (world happened) form
+    moves_so : (form : Form) (goes : GoesThrough tells sight faults home left old.disks new.disks (world happened) form
         happened.screens happened.opening.journals) → KeepSound (world happened) goes.first goes.steps
-        → MovesThrough tells sight home left old.disks new.disks (world happened) form happened.screens happened.opening.journals
-    moves_so form goes keep = as_moves tells sight home left old.disks new.disks (world happened) form
+        → MovesThrough tells sight faults home left old.disks new.disks (world happened) form happened.screens happened.opening.journals
+    moves_so form goes keep = as_moves tells sight faults home left old.disks new.disks (world happened) form
         happened.screens happened.opening.journals goes keep
 
     by_next : (form : Form) (script : Script) → stage ≡ Begun form script
@@ -134,31 +134,32 @@ module _ {D : Type 0} (tells : Type 0) (sight : D → Sight) (asked : Asked) (st
 -- ---- runs one after another
 
 -- what the law of a run says, where it is found as it left its disks
-abbrev EndedPasses : {D : Type 0} → Type 0 → (D → Sight) → Trade → Type 0
-EndedPasses {D} tells sight trade =
-    (run : OneRun D) (next : ℕ → Option D) → RanHonestly tells sight trade run
+abbrev EndedPasses : {D : Type 0} → Type 0 → (D → Sight) → (D → ℕ) → Trade → Type 0
+EndedPasses {D} tells sight faults trade =
+    (run : OneRun D) (next : ℕ → Option D) → RanHonestly tells sight faults trade run
     → AreFoundAs tells sight trade run.left next
     → Passes trade (held tells sight run.home) (held tells sight next)
 
-module _ {D : Type 0} (tells : Type 0) (sight : D → Sight) (trade : Trade) (ended : EndedPasses tells sight trade)
+module _ {D : Type 0} (tells : Type 0) (sight : D → Sight) (faults : D → ℕ) (trade : Trade)
+    (ended : EndedPasses tells sight faults trade)
     (passed : (old new : ℕ → Option D) → Passes trade (held tells sight old) (held tells sight new)
     → AreFitting trade (held tells sight old) → AreFitting trade (held tells sight new)) where
   pub runs_on : (run : OneRun D) (more : List (OneRun D)) → AreFitting trade (held tells sight run.home)
-      → AreRunsOn tells sight trade run more → AreFitting trade (held tells sight (last_run run more).home)
+      → AreRunsOn tells sight faults trade run more → AreFitting trade (held tells sight (last_run run more).home)
   runs_on run [] fitting are = fitting
   runs_on run (next ∷ more) fitting are =
       runs_on next more (passed run.home next.home (ended run next.home are.0 are.1) fitting) are.2
 
-pub opened_fit : {D : Type 0} (tells : Type 0) (sight : D → Sight) (trade : Trade) (run : OneRun D)
-    (honest : RanHonestly tells sight trade run) (script : Script)
+pub opened_fit : {D : Type 0} (tells : Type 0) (sight : D → Sight) (faults : D → ℕ) (trade : Trade) (run : OneRun D)
+    (honest : RanHonestly tells sight faults trade run) (script : Script)
     → stage_of run.asked honest.ran.ran.happened.hands honest.ran.ran.happened.early honest.ran.ran.happened.parts ≡ Begun Resume script
     → ((opening : Opening) → IsOpening trade (disks_at tells sight run.home) Resume opening → opening.next ≡ NoMore
     → Fit trade (journals_in opening.journals))
     → honest.ran.ran.happened.opening.next ≡ NoMore
     → Fit trade (journals_in honest.ran.ran.happened.opening.journals)
-opened_fit tells sight trade run honest script begun opened all =
+opened_fit tells sight faults trade run honest script begun opened all =
     opened honest.ran.ran.happened.opening
     (subst (λ (t : Trade). IsOpening t (disks_at tells sight run.home) Resume honest.ran.ran.happened.opening)
     (honest.world_is Resume script begun)
-    (opening_is tells sight run.asked run.status run.unread run.before run.after run.home run.left run.old run.new honest.ran
+    (opening_is tells sight faults run.asked run.status run.unread run.before run.after run.home run.left run.old run.new honest.ran
     Resume script begun)) all

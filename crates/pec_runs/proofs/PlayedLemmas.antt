@@ -40,7 +40,8 @@ pub some_acts : (providers : List Provider) (commands : List Command) (end : End
 some_acts providers [] end = λ e. cc
 some_acts providers (command ∷ commands) end = λ e. cc
 
-module _ (trade : Trade) (providers : List Provider) (tells : Type 0) {D : Type 0} (sight : D → Sight) where
+module _ (trade : Trade) (providers : List Provider) (tells : Type 0) {D : Type 0} (sight : D → Sight)
+    (faults : D → ℕ) where
   abbrev script_text : Rest → State D → List (Step D) → Script → Bytes
   script_text rest here steps written =
       outcome_text providers (outcome_from trade (lucks_in steps) rest here.sites written)
@@ -154,7 +155,7 @@ module _ (trade : Trade) (providers : List Provider) (tells : Type 0) {D : Type 
   -- ---- how a script goes
 
   module _ (written : Script) (here there : Point D) {how : Option Stop}
-      (goes : Goes trade providers tells sight (acts_of_script providers written) here there how) where
+      (goes : Goes trade providers tells sight faults (acts_of_script providers written) here there how) where
     abbrev behind : State D
     behind = state_behind here.state goes.steps
 
@@ -167,22 +168,42 @@ module _ (trade : Trade) (providers : List Provider) (tells : Type 0) {D : Type 
     front : Front here.state goes.steps goes.left written
     front = front_of here.state goes.steps goes.left written.commands written.end goes.acts_are goes.each
 
+    -- what was written is a front of the lines of the steps
+    front_of_all : (held : Option Bytes) (all : Bytes) → held ≡ followed_by here.held all → WrotePart here.held held all
+    front_of_all held all is =
+        record { rest = []; wrote = record { done = all; held = is; text = sym (append-nil all) } }
+
+    front_by : (stop : Option Stop) → EndsSo trade providers tells sight behind text goes.left here.held there stop
+        → WrotePart here.held there.held text
+    front_by None ends = front_of_all there.held text ends.2
+    front_by (Some WriteFault) ends = ends.1
+    front_by (Some ReadFault) ends = front_of_all there.held text ends.2
+    front_by (Some NoMemory) ends = front_of_all there.held text ends.2
+
+    was_written : tells → WrotePart here.held there.held text
+    was_written told = elim goes.ends [
+      | inl ends ↦ front_by how ends
+      | inr astray ↦ absurd (astray.strays.untold told)
+    ]
+
     -- it was played so, with its state told
     as_played : (status : Status) (rest : Rest)
         → MayPlay trade tells behind.spares behind.sites behind.counts there.state.counts front.more [] rest
         → Tells providers status here.held there.held (outcome_from trade lucks rest here.state.sites written)
         → LeavesOff trade behind.sites (command_in_hand status NoMore rest lucks written) there.state.sites
-        → IsScriptPlayed trade providers tells sight written status here there
+        → IsScriptPlayed trade providers tells sight faults written status here there
     as_played status rest may told leaves_off = record {
       steps = goes.steps;
       unplayed = goes.left;
       acts_are = goes.acts_are;
       each = goes.each;
+      counted = goes.counted;
       moments = goes.moments;
       since = goes.since;
       rest = rest;
       may = front.may there.state.counts rest may;
       told = told;
+      written = was_written;
       left = there.state.sites;
       leaves_off = subst (λ (s : List Site). LeavesOff trade s (command_in_hand status NoMore rest lucks written)
           there.state.sites) (sym front.after) leaves_off;
@@ -225,7 +246,7 @@ module _ (trade : Trade) (providers : List Provider) (tells : Type 0) {D : Type 
 
     ends_so : (stop : Option Stop) → EndsSo trade providers tells sight behind text goes.left here.held there stop
         → IsText here.state goes.steps goes.left written front.more
-        → IsScriptPlayed trade providers tells sight written (status_by written.end stop) here there
+        → IsScriptPlayed trade providers tells sight faults written (status_by written.end stop) here there
     ends_so None ends (All none over ended is) = as_played (status_of written.end) ToTheEnd (may_end over)
         (inl (told_end ended (ends.2 ∙ ap (followed_by here.held) is))) (at_state ends.1)
     ends_so None ends (Some_left some next is) =
@@ -244,13 +265,14 @@ module _ (trade : Trade) (providers : List Provider) (tells : Type 0) {D : Type 
 
     astray_so : (status : Status) → GoesAstray trade providers tells sight behind text goes.left here.held there
         → IsText here.state goes.steps goes.left written front.more
-        → IsScriptPlayed trade providers tells sight written status here there
+        → IsScriptPlayed trade providers tells sight faults written status here there
     astray_so status astray (All none over ended is) = absurd (is_left goes.left astray.strays.restarts none)
     astray_so status astray (Some_left some next is) = record {
       steps = goes.steps;
       unplayed = goes.left;
       acts_are = goes.acts_are;
       each = goes.each;
+      counted = goes.counted;
       moments = goes.moments;
       since = goes.since;
       rest = Strayed;
@@ -261,6 +283,7 @@ module _ (trade : Trade) (providers : List Provider) (tells : Type 0) {D : Type 
         more = astray.more;
         held = astray.held ∙ ap (λ (t : Bytes). followed_by here.held (t ++ astray.more)) is;
       });
+      written = was_written;
       left = (script trade lucks here.state.sites written.commands).after;
       leaves_off = Behind refl;
       is_left = λ t. absurd (astray.strays.untold t);
@@ -268,8 +291,8 @@ module _ (trade : Trade) (providers : List Provider) (tells : Type 0) {D : Type 
     }
 
   pub script_goes : (written : Script) (here there : Point D) (stop : Option Stop)
-      → Goes trade providers tells sight (acts_of_script providers written) here there stop
-      → IsScriptPlayed trade providers tells sight written (status_by written.end stop) here there
+      → Goes trade providers tells sight faults (acts_of_script providers written) here there stop
+      → IsScriptPlayed trade providers tells sight faults written (status_by written.end stop) here there
   script_goes written here there stop goes = elim goes.ends [
     | inl ends ↦ ends_so written here there goes stop ends (front written here there goes).text
     | inr astray ↦ astray_so written here there goes (status_by written.end stop) astray (front written here there

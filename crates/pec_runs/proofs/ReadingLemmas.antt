@@ -104,16 +104,17 @@ done_text : (providers : List Provider) → end_text providers Done ≡ []
 unfolding end_text
 done_text providers = refl
 
-module _ (trade : Trade) (providers : List Provider) (tells : Type 0) {D : Type 0} (sight : D → Sight) where
+module _ (trade : Trade) (providers : List Provider) (tells : Type 0) {D : Type 0} (sight : D → Sight)
+    (faults : D → ℕ) where
   abbrev script_at : Hands → LinePoint D → List Bytes → Script
   script_at hands here lines = script_of hands providers here.number lines
 
   -- ---- the loop goes on
 
-  pub reads_start : (first : LinePoint D) → Reads trade providers tells sight first first
+  pub reads_start : (first : LinePoint D) → Reads trade providers tells sight faults first first
   reads_start first = record {
     done = [];
-    goes = goes_nowhere trade providers tells sight first.point;
+    goes = goes_nowhere trade providers tells sight faults first.point;
     hands = λ line. None;
     script = λ later agree lines left. (lines, left, refl);
   }
@@ -122,15 +123,15 @@ module _ (trade : Trade) (providers : List Provider) (tells : Type 0) {D : Type 
   pub reads_on : (first here : LinePoint D) (there : Point D) (spare : Option Patterns) (line : Bytes)
       (what : lines.Line) (behind : Option Bytes)
       → said_by spare providers here.number line ≡ what → GoesOn what → IsLineRead here.unread line behind
-      → TellsOn here.unread behind → Goes trade providers tells sight (map Plays (commands_by what)) here.point there
+      → TellsOn here.unread behind → Goes trade providers tells sight faults (map Plays (commands_by what)) here.point there
       None
-      → Reads trade providers tells sight first here
-      → Reads trade providers tells sight first (behind_line here there behind)
+      → Reads trade providers tells sight faults first here
+      → Reads trade providers tells sight faults first (behind_line here there behind)
   reads_on first here there spare line what behind said on read tell goes reads = record {
     done = reads.done ++ commands_by what;
-    goes = subst (λ (l : List Act). Goes trade providers tells sight l first.point there None)
+    goes = subst (λ (l : List Act). Goes trade providers tells sight faults l first.point there None)
         (sym (plays_more reads.done (commands_by what)))
-        (goes_on trade providers tells sight (map Plays reads.done) (map Plays (commands_by what)) first.point
+        (goes_on trade providers tells sight faults (map Plays reads.done) (map Plays (commands_by what)) first.point
         here.point there
         None reads.goes goes);
     hands = hands_with reads.hands here.number spare;
@@ -158,13 +159,13 @@ module _ (trade : Trade) (providers : List Provider) (tells : Type 0) {D : Type 
 
   -- acts behind those that were played are the rest of the script
   reads_by : (first here : LinePoint D) (there : Point D) (hands : Hands) (lines : List Bytes) (stop : Option Stop)
-      → (reads : Reads trade providers tells sight first here) → AgreeBefore here.number reads.hands hands
+      → (reads : Reads trade providers tells sight faults first here) → AgreeBefore here.number reads.hands hands
       → AreLinesLeft here.unread lines
-      → Goes trade providers tells sight (acts_of_script providers (script_at hands here lines)) here.point there stop
-      → IsRead trade providers tells sight first there (status_by (script_at hands here lines).end stop)
+      → Goes trade providers tells sight faults (acts_of_script providers (script_at hands here lines)) here.point there stop
+      → IsRead trade providers tells sight faults first there (status_by (script_at hands here lines).end stop)
   reads_by first here there hands lines stop reads agree left goes =
       let before = reads.script hands agree lines left
-      in let all = goes_on trade providers tells sight (map Plays reads.done) (acts_of_script providers (script_at
+      in let all = goes_on trade providers tells sight faults (map Plays reads.done) (acts_of_script providers (script_at
       hands here lines))
       first.point here.point there stop reads.goes goes
       in let acts = sym (acts_more reads.done (Writes (end_text providers (script_at hands here lines).end) ∷ [])
@@ -173,26 +174,26 @@ module _ (trade : Trade) (providers : List Provider) (tells : Type 0) {D : Type 
         hands = hands;
         lines = before.0;
         left = before.1;
-        played = subst (λ (s : Script). IsScriptPlayed trade providers tells sight s (status_by (script_at hands here
+        played = subst (λ (s : Script). IsScriptPlayed trade providers tells sight faults s (status_by (script_at hands here
             lines).end stop)
             first.point there) (sym before.2)
-            (script_goes trade providers tells sight (behind_commands reads.done (script_at hands here lines)) first.point
+            (script_goes trade providers tells sight faults (behind_commands reads.done (script_at hands here lines)) first.point
             there stop
-            (subst (λ (l : List Act). Goes trade providers tells sight l first.point there stop) acts all));
+            (subst (λ (l : List Act). Goes trade providers tells sight faults l first.point there stop) acts all));
       }
 
   -- the script ends at a line, whatever is behind it, or at the end of the input
   pub reads_ended : (first here : LinePoint D) (there : Point D) (lines : List Bytes) (end : End) (stop : Option Stop)
       → ((hands : Hands) → script_of hands providers here.number lines ≡ nothing_but end)
       → AreLinesLeft here.unread lines
-      → Goes trade providers tells sight (Writes (end_text providers end) ∷ []) here.point there stop
-      → Reads trade providers tells sight first here → IsRead trade providers tells sight first there
+      → Goes trade providers tells sight faults (Writes (end_text providers end) ∷ []) here.point there stop
+      → Reads trade providers tells sight faults first here → IsRead trade providers tells sight faults first there
       (status_by end stop)
   reads_ended first here there lines end stop ended left goes reads =
       let is = ended reads.hands
-      in subst (λ (s : Script). IsRead trade providers tells sight first there (status_by s.end stop)) is
+      in subst (λ (s : Script). IsRead trade providers tells sight faults first there (status_by s.end stop)) is
       (reads_by first here there reads.hands lines stop reads (same_before here.number reads.hands) left
-      (subst (λ (s : Script). Goes trade providers tells sight (acts_of_script providers s) here.point there stop)
+      (subst (λ (s : Script). Goes trade providers tells sight faults (acts_of_script providers s) here.point there stop)
       (sym is) goes))
 
   -- it was stopped within what a line says
@@ -200,9 +201,9 @@ module _ (trade : Trade) (providers : List Provider) (tells : Type 0) {D : Type 
       (what : lines.Line) (behind : Option Bytes) (stop : Stop)
       → said_by spare providers here.number line ≡ what → GoesOn what
       → IsLineRead here.unread line behind → TellsOn here.unread behind
-      → Goes trade providers tells sight (map Plays (commands_by what)) here.point there (Some stop)
-      → Reads trade providers tells sight first here
-      → IsRead trade providers tells sight first there (stopped_status stop)
+      → Goes trade providers tells sight faults (map Plays (commands_by what)) here.point there (Some stop)
+      → Reads trade providers tells sight faults first here
+      → IsRead trade providers tells sight faults first there (stopped_status stop)
   reads_stopped first here there spare line what behind stop said on read tell goes reads =
       let more = some_lines behind
       in let hands = hands_with reads.hands here.number spare
@@ -211,28 +212,28 @@ module _ (trade : Trade) (providers : List Provider) (tells : Type 0) {D : Type 
       in let later = acts_of_script providers (script_of hands providers (here.number + 1) more.0)
       in reads_by first here there hands (line ∷ more.0) (Some stop) reads (hand_before reads.hands here.number spare)
       (lines_on here.unread line behind more.0 read tell more.1)
-      (subst (λ (s : Script). Goes trade providers tells sight (acts_of_script providers s) here.point there (Some
+      (subst (λ (s : Script). Goes trade providers tells sight faults (acts_of_script providers s) here.point there (Some
       stop)) (sym script)
-      (subst (λ (l : List Act). Goes trade providers tells sight l here.point there (Some stop))
+      (subst (λ (l : List Act). Goes trade providers tells sight faults l here.point there (Some stop))
       (sym (acts_more (commands_by what) (Writes (end_text providers (script_of hands providers (here.number + 1)
       more.0).end)
       ∷ []) (script_of hands providers (here.number + 1) more.0).commands))
-      (stops_before trade providers tells sight (map Plays (commands_by what)) later here.point there stop goes)))
+      (stops_before trade providers tells sight faults (map Plays (commands_by what)) later here.point there stop goes)))
 
   -- it was stopped between two acts, by its input or for want of memory
   pub reads_halted : (first here : LinePoint D) (stop : Stop) → stop ≢ WriteFault
-      → Reads trade providers tells sight first here
-      → IsRead trade providers tells sight first here.point (stopped_status stop)
+      → Reads trade providers tells sight faults first here
+      → IsRead trade providers tells sight faults first here.point (stopped_status stop)
   reads_halted first here stop other reads =
       let more = some_lines here.unread
       in reads_by first here here.point reads.hands more.0 (Some stop) reads (same_before here.number reads.hands) more.1
-      (halts trade providers tells sight _ here.point stop
+      (halts trade providers tells sight faults _ here.point stop
       (some_acts providers (script_at reads.hands here more.0).commands (script_at reads.hands here more.0).end) other)
 
   -- the input is at its end
   pub reads_over : (first here : LinePoint D) → IfSome here.unread (λ text. text ≡ [])
-      → Reads trade providers tells sight first here → IsRead trade providers tells sight first here.point
+      → Reads trade providers tells sight faults first here → IsRead trade providers tells sight faults first here.point
       statuses.Done
   reads_over first here over reads =
       reads_ended first here here.point [] Done None (λ hands. refl) (none_left here.unread over)
-      (writes_none trade providers tells sight (end_text providers Done) here.point (done_text providers)) reads
+      (writes_none trade providers tells sight faults (end_text providers Done) here.point (done_text providers)) reads

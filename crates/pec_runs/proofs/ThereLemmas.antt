@@ -116,6 +116,7 @@ module _ (there : QuietThere) (tells : Type 0) (old_disks new_disks : Disks) (co
         asked stage) (sym begun)
         (record {
           opening = opens;
+          writes = λ failed. tt;
           plays = quiet_plays there trade tells asked.spares start counts.disks written handed;
           left = outcome.after;
           leaves_off = Behind (sym (ap (λ (o : Outcome). o.after) played_so));

@@ -14,7 +14,7 @@ use Rattle.pec_plays.specs.Commands.{Command}
 use Rattle.pec_screen.specs.Verdicts.{Patterns}
 use Rattle.pec_runs.specs.Endings.{End, end_text}
 use Rattle.pec_runs.specs.Headline.{AllHonest, CanBeSaid}
-use Rattle.pec_runs.specs.Moments.{AllStandIn, AreHonest, IsHonestAct, IsKilledIn, state_at}
+use Rattle.pec_runs.specs.Moments.{AllStandIn, AreHonest, HoldsAll, IsHonestAct, IsKilledAt, IsKilledIn, Phase, number_told, state_at}
 use Rattle.pec_runs.specs.Moves.{KeepSound}
 use Rattle.pec_runs.specs.Openings.{Form, IsOpening, NoMore, Opening, Resume, Run, disks_at}
 use Rattle.pec_runs.specs.Passing.{AreFitting, AreFoundAs, AreFoundBetween, AreFoundWithin, Followed, HadOnly, Passes, held}
@@ -24,7 +24,7 @@ use Rattle.pec_runs.specs.Steps.{acts_of, acts_of_script, luck_before, lucks_in,
 use Rattle.pec_runs.specs.Through.{AreAtHome, AreHadFrom, GoesThrough, IsHadFrom, Made, MovesThrough, Same, Still}
 use Rattle.pec_runs.specs.Through.{size_begun}
 use Rattle.pec_runs.proofs.LineLemmas.{one_unforged}
-use Rattle.pec_runs.proofs.MomentLemmas.{StaysSound, keeps_at, killed_follows, seen_at, sound_on}
+use Rattle.pec_runs.proofs.MomentLemmas.{StaysSound, keeps_at, killed_follows, seen_at, sound_on, told_kept}
 use Rattle.pec_runs.proofs.PassingLemmas.{opened_fitting, some_there}
 use Rattle.pec_runs.proofs.RunLemmas.{sound_beginning}
 use Rattle.pec_runs.proofs.StepLemmas.{JointStays}
@@ -138,7 +138,7 @@ module _ {D : Type 0} (tells : Type 0) (sight : D → Sight) (trade : Trade) (to
     (home left : ℕ → Option D) (form : Form) (screens : List (List Patterns)) (opening : Opening)
     (is : IsOpening trade (disks_at tells sight home) form opening) (all : opening.next ≡ NoMore)
     (at_home : AreAtHome trade home) (from upto : ℕ → ℕ)
-    (goes : MovesThrough tells sight home left from upto trade form screens opening.journals) where
+    (faults : D → ℕ) (goes : MovesThrough tells sight faults home left from upto trade form screens opening.journals) where
   abbrev steps : List (Step D)
   steps = goes.moves.steps
 
@@ -176,6 +176,16 @@ module _ {D : Type 0} (tells : Type 0) (sight : D → Sight) (trade : Trade) (to
       → AreFoundWithin tells sight trade number goes.first goes.last steps found
       → Passes trade (held tells sight home) (held tells sight found)
   killed_passes found number within killed = within_step found number within (λ sound stand. killed)
+
+  -- what was told is on the disks
+  pub told_there : AreFitting trade (held tells sight home) → (phase : Phase) (number : ℕ) → number ≤ length steps
+      → (provider : ℕ) (bytes : Bytes) → IsKilledAt sight phase number goes.first goes.last steps provider bytes
+      → HoldsAll (At (number_told phase number)).sites provider bytes
+  told_there fitting phase number within provider bytes killed =
+      let there = keeps_at trade sight is_trade number goes.first goes.last steps (goes.moves.sound told) moments
+      (sound_first fitting) (goes.stand told) within in
+      told_kept trade sight only_now phase number goes.first goes.last steps moments within there.0 there.1
+      (seen_at trade sight number goes.first goes.last steps moments goes.seen within) provider bytes killed
 
   -- what is left in the end was left behind the last step
   module _ (number : ℕ) (earlier : At number ≡ state_behind goes.first steps) (later : At (suc number) ≡ goes.last)
@@ -227,19 +237,21 @@ steps_move trade tells sight stays here (step ∷ done) are honest = (
   steps_move trade tells sight stays step.behind done are.1 honest.1,
 )
 
-abbrev pub as_moves : {D : Type 0} (tells : Type 0) (sight : D → Sight) (home left : ℕ → Option D) (from upto : ℕ → ℕ)
+abbrev pub as_moves : {D : Type 0} (tells : Type 0) (sight : D → Sight) (faults : D → ℕ) (home left : ℕ → Option D) (from upto : ℕ → ℕ)
     (trade : Trade) (form : Form) (screens : List (List Patterns)) (journals : List (List Entry))
-    → (goes : GoesThrough tells sight home left from upto trade form screens journals)
-    → KeepSound trade goes.first goes.steps → MovesThrough tells sight home left from upto trade form screens journals
-as_moves tells sight home left from upto trade form screens journals goes keep = record {
+    → (goes : GoesThrough tells sight faults home left from upto trade form screens journals)
+    → KeepSound trade goes.first goes.steps → MovesThrough tells sight faults home left from upto trade form screens journals
+as_moves tells sight faults home left from upto trade form screens journals goes keep = record {
   first = goes.first;
   last = goes.last;
   begins = goes.begins;
   seen = goes.seen;
+  begun = goes.begun;
   stand = goes.stand;
   had = goes.had;
-  moves = record { steps = goes.steps; sound = λ told. keep; moments = goes.moments };
+  moves = record { steps = goes.steps; counted = λ first. goes.counted; sound = λ told. keep; moments = goes.moments };
   kept = goes.kept;
+  elsewhere = goes.elsewhere;
 }
 
 -- ---- no forged frame

@@ -1,6 +1,6 @@
 -- What the books that a run prints belong to, word by word: `Headline`. At each command of a script the ledger is one
--- that the case tables reach from that of the beginning, and users have what certified mail promises them; each book
--- that is answered is the ledger's; no pair is decided or learned twice; a clock call that succeeds leaves no pair of
+-- that the case tables reach from that of the beginning, and from the one before it, and users have what certified mail
+-- promises them; each book that is answered is the ledger's; no pair is decided or learned twice; a clock call that succeeds leaves no pair of
 -- 24 hours without its notice; and a receipt whose acknowledgement is on its way isn't missing. RFC 6109, sections
 -- 3.1 to 3.4, and DPR 68/2005, article 8.
 use Rattle.std.specs.Prelude.{◌≡◌, ℕ, ◌+◌, ◌<◌, ◌≤◌, List, [], ◌∷◌, length, take, slice_get, Contains, IsTrue, Some, None}
@@ -116,11 +116,16 @@ pub record Stands (trade : Trade) (start now : List Site) : Type 0 where
 
 -- ---- a script
 
--- What a script's answers belong to: at each command the state stands; books are the ledger's; a clock call leaves no
+-- What a script's answers belong to: at each command the state stands, and is reached from the one before it; books are
+-- the ledger's; a clock call leaves no
 -- pair of 24 hours without its notice; and no pair is told decided twice, or learned twice.
 pub record Headline (trade : Trade) (start : List Site) (lucks : List Luck) (commands : List Command) : Type 0 where
   -- before each command, and behind the last that was played
   pub each : (number : ℕ) → Stands trade start (state_before trade lucks start commands number)
+  -- in the run's order: the ledger behind a command is reached from the one before it
+  pub onward : (number : ℕ)
+      → IsReached trade (journals_of (state_before trade lucks start commands number))
+      (journals_of (state_before trade lucks start commands (number + 1)))
   pub books : (number : ℕ) (address : Bytes) (lines : List BookLine) → slice_get commands number ≡ Some (Book address)
       → slice_get (script trade lucks start commands).answers number ≡ Some (Lines lines)
       → IsBook trade (state_before trade lucks start commands number) address lines

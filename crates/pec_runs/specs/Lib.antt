@@ -1,4 +1,5 @@
 pub mod AnswerLines
+pub mod Complete
 pub mod Endings
 pub mod Examples
 pub mod Happened

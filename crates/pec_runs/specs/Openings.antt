@@ -47,6 +47,14 @@ pub data Next : Type 0 where
   Fails : Next  -- it failed, or the depot did
   Stops : Next  -- memory ran out
 
+-- Something is to be written where it is known what came of each disk; of a fault, or for want of memory, nothing is.
+abbrev pub HasLines : Next → Type 0
+HasLines NoMore = Unit {0}
+HasLines Holds = Unit {0}
+HasLines (Unfits unfit) = Unit {0}
+HasLines Fails = ⊥
+HasLines Stops = ⊥
+
 -- The journals that were made or opened, from provider 0 on, and what came of the next disk.
 pub record Opening : Type 0 where
   pub journals : List (List Entry)
@@ -88,12 +96,17 @@ module _ (trade : Trade) (disks : Disks) where
   IsHad Resume provider journal =
       IsOwn trade provider journal × ((bytes : Bytes) → disks.reads provider bytes → IsJournalOf journal bytes)
 
-  -- Only `run` asks for an empty disk, and only `resume` reads what a disk holds.
+  -- Only `run` asks for an empty disk, and only `resume` reads what a disk holds; and only a provider's is told to hold
+  -- what it may not.
   abbrev pub IsNext : Form → ℕ → Next → Type 0
   IsNext form provider NoMore = provider ≡ trade.providers
-  IsNext form provider Holds = (form ≡ Run) × ((bytes : Bytes) → disks.reads provider bytes → 0 < length bytes)
+  IsNext form provider Holds =
+      (form ≡ Run) × ((bytes : Bytes) → disks.reads provider bytes → 0 < length bytes) × (provider < trade.providers)
   IsNext form provider (Unfits unfit) =
       (form ≡ Resume) × ((bytes : Bytes) → disks.reads provider bytes → IsUnfit trade provider bytes (fault_of unfit))
+      × (provider < trade.providers)
+      × ((bytes : Bytes) → disks.reads provider bytes → (list : List Entry) → IsOwn trade provider list
+      → IsJournalOf list bytes → ⊥)
   IsNext form provider Fails = Unit {0}
   IsNext form provider Stops = Unit {0}
 

@@ -142,10 +142,11 @@ pub record OneRun (D : Type 0) : Type 0 where
   pub old : Counts
   pub new : Counts
 
-module _ {D : Type 0} (tells : Type 0) (sight : D → Sight) (trade : Trade) where
+module _ {D : Type 0} (tells : Type 0) (sight : D → Sight) (faults : D → ℕ) (trade : Trade) where
   -- It ran in this world, on the disks of its providers, and injected no forged frame.
   pub record RanHonestly (run : OneRun D) : Type 0 where
-    pub ran : RanThrough tells sight run.asked run.status run.unread run.before run.after run.home run.left run.old run.new
+    pub ran : RanThrough tells sight faults run.asked run.status run.unread run.before run.after run.home run.left run.old
+        run.new
     pub world_is : (form : Form) (script : Script)
         → stage_of run.asked ran.ran.happened.hands ran.ran.happened.early ran.ran.happened.parts ≡ Begun form script
         → world ran.ran.happened ≡ trade

@@ -14,7 +14,7 @@ use Rattle.pec_input.specs.Directory.{directory_in}
 use Rattle.pec_runs.specs.Happened.{Asked, Happened, IsGiven, IsSetting, Stage, Over, Halted, Begun, outcome_of, providers_in, stage_of, trade_in}
 use Rattle.pec_input.specs.Opening.{parts_left}
 use Rattle.pec_input.specs.Parts.{Parts}
-use Rattle.pec_runs.specs.Openings.{disks_at, AreLeft, AreUntouched, Disks, Form, IsOpening, Next, NoMore, opened_all}
+use Rattle.pec_runs.specs.Openings.{disks_at, AreLeft, AreUntouched, Disks, Form, HasLines, IsOpening, Next, NoMore, opened_all}
 use Rattle.pec_runs.specs.Plays.{Ends, Fails, Finish, MayPlay, Outcome, Rest, Stopped, Stops, Strays, outcome_text}
 use Rattle.pec_runs.specs.ScriptLines.{Script}
 use Rattle.pec_runs.specs.Statuses.{Status, status_of}
@@ -42,6 +42,10 @@ TellsAs statuses.WriteFault before after text finish = WrotePart before after te
 TellsAs statuses.ReadFault before after text finish = (finish ≡ Stops) × (after ≡ followed_by before text)
 TellsAs statuses.NoMemory before after text finish = (finish ≡ Stops) × (after ≡ followed_by before text)
 TellsAs status before after text finish = (status_at finish ≡ Some status) × (after ≡ followed_by before text)
+
+-- The output fails only where something is to be written.
+abbrev pub WritesAt : Status → Next → Type 0
+WritesAt status next = status ≡ statuses.WriteFault → HasLines next
 
 -- Behind what is known of it, a run that strayed wrote more.
 pub record TellsMore (before after : Option Bytes) (text : Bytes) (finish : Finish) : Type 0 where
@@ -118,6 +122,7 @@ module _ (tells : Type 0) (old_disks new_disks : Disks) (old new : Counts) (happ
   -- A run that begins: it has its journals, plays its script where it has all, and leaves the disks so.
   pub record HasBegun (status : Status) (asked : Asked) (form : Form) (script : Script) : Type 0 where
     pub opening : IsOpening (world happened) old_disks form happened.opening
+    pub writes : WritesAt status happened.opening.next
     pub plays : PlaysOn script happened.opening.next
     pub left : List Site
     pub leaves_off : LeavesOff (world happened) (outcome_of asked happened).after

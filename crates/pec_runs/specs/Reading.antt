@@ -53,12 +53,13 @@ behind_commands commands script = record { commands = commands ++ script.command
 abbrev pub AgreeBefore : ℕ → Hands → Hands → Type 0
 AgreeBefore number hands others = (before : ℕ) → before < number → others before ≡ hands before
 
-module _ (trade : Trade) (providers : List Provider) (tells : Type 0) {D : Type 0} (sight : D → Sight) where
+module _ (trade : Trade) (providers : List Provider) (tells : Type 0) {D : Type 0} (sight : D → Sight)
+    (faults : D → ℕ) where
   -- The loop came from the first place to this one: it played these commands, and they are what the lines between say with
   -- the spares that were at hand, whatever lines are left, and whatever will be at hand for them.
   pub record Reads (first here : LinePoint D) : Type 0 where
     pub done : List Command
-    pub goes : Goes trade providers tells sight (map Plays done) first.point here.point None
+    pub goes : Goes trade providers tells sight faults (map Plays done) first.point here.point None
     pub hands : Hands
     pub script : (later : Hands) → AgreeBefore here.number hands later → (lines : List Bytes)
         → AreLinesLeft here.unread lines
@@ -71,5 +72,5 @@ module _ (trade : Trade) (providers : List Provider) (tells : Type 0) {D : Type 
     pub hands : Hands
     pub lines : List Bytes
     pub left : AreLinesLeft first.unread lines
-    pub played : IsScriptPlayed trade providers tells sight (script_of hands providers first.number lines) status
+    pub played : IsScriptPlayed trade providers tells sight faults (script_of hands providers first.number lines) status
         first.point there

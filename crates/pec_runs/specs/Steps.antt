@@ -142,6 +142,17 @@ AreSeen {D} here =
     (provider : ℕ) (one : ChronicleState D) → here.chronicles provider ≡ Some one
     → (journal_at here.sites provider ≡ one.entries) × (interrupted_at here.sites provider ≡ one.interrupted)
 
+-- Each provider's count of faults is that of the disk that it stands over.
+abbrev pub AreCounted : {D : Type 0} → (D → ℕ) → State D → Type 0
+AreCounted {D} faults here =
+    (provider : ℕ) (one : ChronicleState D) → here.chronicles provider ≡ Some one
+    → here.counts provider ≡ faults one.disk
+
+-- So it is behind each of these steps.
+abbrev pub AllCounted : {D : Type 0} → (D → ℕ) → List (Step D) → Type 0
+AllCounted faults [] = Unit {0}
+AllCounted faults (step ∷ steps) = AreCounted faults step.behind × AllCounted faults steps
+
 module _ (trade : Trade) {D : Type 0} (sight : D → Sight) where
   -- A provider's entries over its disk, and what they were in a state: where these stood on the disk those stand there
   -- again, and at any moment between a crash leaves of the disk the journal of a list that follows the state.
@@ -222,17 +233,24 @@ module _ (trade : Trade) (providers : List Provider) (tells : Type 0) {D : Type 
     pub more : Bytes
     pub held : there.held ≡ followed_by before (text ++ more)
 
+-- `faults` is the count of faults that a disk itself tells.
+module _ (trade : Trade) (providers : List Provider) (tells : Type 0) {D : Type 0} (sight : D → Sight)
+    (faults : D → ℕ) where
   -- A run went from here to there by these acts: all were done one after another, or some, and then it was stopped so;
-  -- or it strayed. The output is blamed only where its count of faults rose.
+  -- or it strayed. The output is blamed only where its count of faults rose. Behind each step the counts of faults are
+  -- those of the disks, where they were as it began.
   pub record Goes (acts : List Act) (here there : Point D) (stop : Option Stop) : Type 0 where
     pub steps : List (Step D)
     pub left : List Act
     pub acts_are : acts_of steps ++ left ≡ acts
     pub each : AreSteps trade tells here.state steps
+    pub counted : AreCounted faults here.state → AllCounted faults steps
     pub moments : tells → AllMoments trade sight here.state there.state steps
     pub ends :
-        EndsSo (state_behind here.state steps) (text_of trade providers here.state steps) left here.held there stop
-        ⊎ GoesAstray (state_behind here.state steps) (text_of trade providers here.state steps) left here.held there
+        EndsSo trade providers tells sight (state_behind here.state steps) (text_of trade providers here.state steps)
+        left here.held there stop
+        ⊎ GoesAstray trade providers tells sight (state_behind here.state steps)
+        (text_of trade providers here.state steps) left here.held there
     pub since : (provider : ℕ) → (state_behind here.state steps).counts provider ≤ there.state.counts provider
     pub later : NoneFell here there
     pub blame : stop ≡ Some WriteFault → HasRisen here.faults there.faults
@@ -247,11 +265,13 @@ module _ (trade : Trade) (providers : List Provider) (tells : Type 0) {D : Type 
 
   -- A script was played from here to there, with this status: by steps, to an outcome that may be, of which so much was
   -- written; and it left this state, where disks tell what they hold, and wherever it didn't stray.
+  -- What was written is a front of the lines of the steps.
   pub record IsScriptPlayed (script : Script) (status : Status) (here there : Point D) : Type 0 where
     pub steps : List (Step D)
     pub unplayed : List Act
     pub acts_are : acts_of steps ++ unplayed ≡ acts_of_script providers script
     pub each : AreSteps trade tells here.state steps
+    pub counted : AreCounted faults here.state → AllCounted faults steps
     pub moments : tells → AllMoments trade sight here.state there.state steps
     pub since : (provider : ℕ) → (state_behind here.state steps).counts provider ≤ there.state.counts provider
     pub rest : Rest
@@ -259,6 +279,7 @@ module _ (trade : Trade) (providers : List Provider) (tells : Type 0) {D : Type 
         (lucks_in steps) rest
     pub told : Tells providers status here.held there.held
         (outcome_from trade (lucks_in steps) rest here.state.sites script)
+    pub written : tells → WrotePart here.held there.held (text_of trade providers here.state steps)
     pub left : List Site
     pub leaves_off : LeavesOff trade (outcome_from trade (lucks_in steps) rest here.state.sites script).after
         (command_in_hand status NoMore rest (lucks_in steps) script) left

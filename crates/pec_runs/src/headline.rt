@@ -11,8 +11,8 @@ use pec_ledger::{arrivals_are_true, licences_stand, rows_have_their_texts, the_g
 use pec_plays::{a_network_stays_sound, no_two_answers};
 
 /// The headline, of a script from a Sound state in which nothing is interrupted, whatever devices do, where no forged
-/// frame is injected: at each command the ledger is one that the case tables reach from that of the beginning, and
-/// users have what they are promised; each book that is answered is the ledger's; no pair is decided or learned
+/// frame is injected: at each command the ledger is one that the case tables reach from that of the beginning, and from
+/// the one before it, and users have what they are promised; each book that is answered is the ledger's; no pair is decided or learned
 /// twice; and a clock call that succeeds leaves no pair of 24 hours without its notice.
 pub fn the_books_belong_to_the_ledger()
     ensures { (trade : Trade) → IsTrade trade → (lucks : List Luck) (start : List Site) (commands : List Command)

@@ -8,7 +8,7 @@ ghost use Rattle.pec_ledger.specs.TradeLaws.{IsTrade};
 ghost use Rattle.pec_screen.specs.Verdicts.{Patterns};
 ghost use Rattle.pec_runs.specs.Happened.{Asked, Begun, stage_of};
 ghost use Rattle.pec_runs.specs.Headline.{AllHonest};
-ghost use Rattle.pec_runs.specs.Moments.{AreHonest};
+ghost use Rattle.pec_runs.specs.Moments.{AreHonest, HoldsAll, IsKilledAt, Phase, number_told, state_at};
 ghost use Rattle.pec_runs.specs.Moves.{KeepSound};
 ghost use Rattle.pec_runs.specs.Openings.{Form, IsOpening, NoMore, Opening, Resume, disks_at};
 ghost use Rattle.pec_runs.specs.Passing.{AreEmpty, AreFitting, AreFoundAs, AreFoundBetween, AreFoundWithin, AreRuns};
@@ -64,7 +64,7 @@ pub fn disks_are_passed_on<P: Depot>()
         (screens : List (List Patterns)) (opening : Opening)
         → IsOpening trade (disks_at (P.tells × P.D.tells) P.D.sight home) form opening → opening.next ≡ NoMore
         → AreAtHome trade home
-        → (goes : MovesThrough (P.tells × P.D.tells) P.D.sight home left from upto trade form screens opening.journals)
+        → (goes : MovesThrough (P.tells × P.D.tells) P.D.sight P.D.faults home left from upto trade form screens opening.journals)
         → AreFoundAs (P.tells × P.D.tells) P.D.sight trade left found
         → Passes trade (held (P.tells × P.D.tells) P.D.sight home) (held (P.tells × P.D.tells) P.D.sight found) }
     ensures killed { P.tells × P.D.tells → (trade : Trade) → IsTrade trade
@@ -72,14 +72,25 @@ pub fn disks_are_passed_on<P: Depot>()
         (screens : List (List Patterns)) (opening : Opening)
         → IsOpening trade (disks_at (P.tells × P.D.tells) P.D.sight home) form opening → opening.next ≡ NoMore
         → AreAtHome trade home
-        → (goes : MovesThrough (P.tells × P.D.tells) P.D.sight home left from upto trade form screens opening.journals)
+        → (goes : MovesThrough (P.tells × P.D.tells) P.D.sight P.D.faults home left from upto trade form screens opening.journals)
         → (number : ℕ) → number ≤ length goes.moves.steps
         → AreFoundWithin (P.tells × P.D.tells) P.D.sight trade number goes.first goes.last goes.moves.steps found
         → Passes trade (held (P.tells × P.D.tells) P.D.sight home) (held (P.tells × P.D.tells) P.D.sight found) }
+    // What is told of steps is on the disks.
+    ensures told { P.tells × P.D.tells → (trade : Trade) → IsTrade trade
+        → (home left : ℕ → Option P.D) (from upto : ℕ → ℕ) (form : Form)
+        (screens : List (List Patterns)) (opening : Opening)
+        → IsOpening trade (disks_at (P.tells × P.D.tells) P.D.sight home) form opening → opening.next ≡ NoMore
+        → AreAtHome trade home
+        → (goes : MovesThrough (P.tells × P.D.tells) P.D.sight P.D.faults home left from upto trade form screens opening.journals)
+        → AreFitting trade (held (P.tells × P.D.tells) P.D.sight home)
+        → (phase : Phase) (number : ℕ) → number ≤ length goes.moves.steps → (provider : ℕ) (bytes : Bytes)
+        → IsKilledAt P.D.sight phase number goes.first goes.last goes.moves.steps provider bytes
+        → HoldsAll (state_at (number_told phase number) goes.first goes.last goes.moves.steps).sites provider bytes }
     // A run that goes by steps and injects no forged frame moves so.
     ensures moves { (trade : Trade) → IsTrade trade → (home left : ℕ → Option P.D) (from upto : ℕ → ℕ) (form : Form)
         (screens : List (List Patterns)) (journals : List (List Entry))
-        (goes : GoesThrough (P.tells × P.D.tells) P.D.sight home left from upto trade form screens journals)
+        (goes : GoesThrough (P.tells × P.D.tells) P.D.sight P.D.faults home left from upto trade form screens journals)
         → AreHonest trade goes.first goes.steps → KeepSound trade goes.first goes.steps }
 {
     a_network_stays_sound();
@@ -94,7 +105,7 @@ pub fn disks_are_passed_on<P: Depot>()
 pub fn a_run_passes_its_disks_on<P: Depot>()
     ensures ended { P.tells × P.D.tells → (trade : Trade) (asked : Asked) (status : Status)
         (unread before after : Option Bytes) (home left found : ℕ → Option P.D) (old new : Counts)
-        (ran : RanThrough (P.tells × P.D.tells) P.D.sight asked status unread before after home left old new)
+        (ran : RanThrough (P.tells × P.D.tells) P.D.sight P.D.faults asked status unread before after home left old new)
         → ((form : Form) (script : Script)
         → stage_of asked ran.ran.happened.hands ran.ran.happened.early ran.ran.happened.parts ≡ Begun form script
         → world ran.ran.happened ≡ trade)
@@ -107,14 +118,14 @@ pub fn a_run_passes_its_disks_on<P: Depot>()
         → Passes trade (held (P.tells × P.D.tells) P.D.sight home) (held (P.tells × P.D.tells) P.D.sight found) }
     ensures unasked { P.tells × P.D.tells → (trade : Trade) (asked : Asked) (status : Status)
         (unread before after : Option Bytes) (home left found : ℕ → Option P.D) (old new : Counts)
-        (ran : RanThrough (P.tells × P.D.tells) P.D.sight asked status unread before after home left old new)
+        (ran : RanThrough (P.tells × P.D.tells) P.D.sight P.D.faults asked status unread before after home left old new)
         → ((form : Form) (script : Script)
         → stage_of asked ran.ran.happened.hands ran.ran.happened.early ran.ran.happened.parts ≢ Begun form script)
         → AreFoundBetween (P.tells × P.D.tells) P.D.sight trade home left found
         → Passes trade (held (P.tells × P.D.tells) P.D.sight home) (held (P.tells × P.D.tells) P.D.sight found) }
     ensures opening { P.tells × P.D.tells → (asked : Asked) (status : Status)
         (unread before after : Option Bytes) (home left found : ℕ → Option P.D) (old new : Counts)
-        (ran : RanThrough (P.tells × P.D.tells) P.D.sight asked status unread before after home left old new)
+        (ran : RanThrough (P.tells × P.D.tells) P.D.sight P.D.faults asked status unread before after home left old new)
         (form : Form) (script : Script)
         → stage_of asked ran.ran.happened.hands ran.ran.happened.early ran.ran.happened.parts ≡ Begun form script
         → ran.ran.happened.opening.next ≢ NoMore
@@ -123,7 +134,7 @@ pub fn a_run_passes_its_disks_on<P: Depot>()
         (held (P.tells × P.D.tells) P.D.sight found) }
     ensures had { P.tells × P.D.tells → (asked : Asked) (status : Status)
         (unread before after : Option Bytes) (home left found : ℕ → Option P.D) (old new : Counts)
-        (ran : RanThrough (P.tells × P.D.tells) P.D.sight asked status unread before after home left old new)
+        (ran : RanThrough (P.tells × P.D.tells) P.D.sight P.D.faults asked status unread before after home left old new)
         (form : Form) (script : Script)
         (begun : stage_of asked ran.ran.happened.hands ran.ran.happened.early ran.ran.happened.parts ≡ Begun form script)
         (all : ran.ran.happened.opening.next ≡ NoMore)
@@ -133,7 +144,7 @@ pub fn a_run_passes_its_disks_on<P: Depot>()
         (held (P.tells × P.D.tells) P.D.sight found) }
     ensures killed { P.tells × P.D.tells → (asked : Asked) (status : Status)
         (unread before after : Option Bytes) (home left found : ℕ → Option P.D) (old new : Counts)
-        (ran : RanThrough (P.tells × P.D.tells) P.D.sight asked status unread before after home left old new)
+        (ran : RanThrough (P.tells × P.D.tells) P.D.sight P.D.faults asked status unread before after home left old new)
         (form : Form) (script : Script)
         (begun : stage_of asked ran.ran.happened.hands ran.ran.happened.early ran.ran.happened.parts ≡ Begun form script)
         (all : ran.ran.happened.opening.next ≡ NoMore)
@@ -150,17 +161,43 @@ pub fn a_run_passes_its_disks_on<P: Depot>()
     a_line_has_one_reading();
 }
 
+/// What a run told is on its disks: at whatever moment it is killed, what its output holds is a front of the lines of the
+/// commands that were played until then (`told` of `what_was_told_is_kept`), and each disk holds the journal of a list that
+/// has all entries of these. It is so where what it found did fit together, and no forged frame was injected.
+pub fn a_run_tells_what_its_disks_hold<P: Depot>()
+    ensures { P.tells × P.D.tells → (asked : Asked) (status : Status)
+        (unread before after : Option Bytes) (home left : ℕ → Option P.D) (old new : Counts)
+        (ran : RanThrough (P.tells × P.D.tells) P.D.sight P.D.faults asked status unread before after home left old new)
+        (form : Form) (script : Script)
+        (begun : stage_of asked ran.ran.happened.hands ran.ran.happened.early ran.ran.happened.parts ≡ Begun form script)
+        (all : ran.ran.happened.opening.next ≡ NoMore)
+        → AreAtHome (world ran.ran.happened) home
+        → AllHonest (world ran.ran.happened) ran.ran.happened.lucks (beginning ran.ran.happened) script.commands
+        → AreFitting (world ran.ran.happened) (held (P.tells × P.D.tells) P.D.sight home)
+        → (phase : Phase) (number : ℕ) → number ≤ length (ran.through.played form script begun all).goes.steps
+        → (provider : ℕ) (bytes : Bytes)
+        → IsKilledAt P.D.sight phase number (ran.through.played form script begun all).goes.first
+        (ran.through.played form script begun all).goes.last (ran.through.played form script begun all).goes.steps
+        provider bytes
+        → HoldsAll (state_at (number_told phase number) (ran.through.played form script begun all).goes.first
+        (ran.through.played form script begun all).goes.last (ran.through.played form script begun all).goes.steps).sites
+        provider bytes }
+{
+    disks_are_passed_on::<P>();
+    a_line_has_one_reading();
+}
+
 /// Runs of one directory, one after another, the first on empty disks, each on the disks that the one before left or
 /// that a crash left of them, at whatever status that one ended: journals that the last of them opens are Fit, where
 /// none injects a forged frame. So what the headline presumes of a run that resumes holds of it.
 pub fn runs_go_on_from_one_another<P: Depot>()
     ensures fitting { P.tells × P.D.tells → (trade : Trade) (first : OneRun P.D) (more : List (OneRun P.D))
         → AreEmpty trade (held (P.tells × P.D.tells) P.D.sight first.home)
-        → AreRunsOn (P.tells × P.D.tells) P.D.sight trade first more
+        → AreRunsOn (P.tells × P.D.tells) P.D.sight P.D.faults trade first more
         → AreFitting trade (held (P.tells × P.D.tells) P.D.sight (last_run first more).home) }
     ensures opened { P.tells × P.D.tells → (trade : Trade) (run : OneRun P.D)
         → AreFitting trade (held (P.tells × P.D.tells) P.D.sight run.home)
-        → (honest : RanHonestly (P.tells × P.D.tells) P.D.sight trade run) (script : Script)
+        → (honest : RanHonestly (P.tells × P.D.tells) P.D.sight P.D.faults trade run) (script : Script)
         → stage_of run.asked honest.ran.ran.happened.hands honest.ran.ran.happened.early honest.ran.ran.happened.parts ≡ Begun Resume script
         → honest.ran.ran.happened.opening.next ≡ NoMore
         → Fit trade (journals_in honest.ran.ran.happened.opening.journals) }

@@ -18,36 +18,36 @@ use pec_outside::Depot;
 /// lines.
 pub fn lines_are_climbed<P: Depot>()
     ensures starts { (trade : Trade) (providers : List Provider) (first : LinePoint P.D)
-        → Reads trade providers (P.tells × P.D.tells) P.D.sight first first }
+        → Reads trade providers (P.tells × P.D.tells) P.D.sight P.D.faults first first }
     ensures on { (trade : Trade) (providers : List Provider) (first here : LinePoint P.D)
         (there : Point P.D) (spare : Option Patterns) (line : Bytes) (what : Line) (behind : Option Bytes)
         → said_by spare providers here.number line ≡ what → GoesOn what
         → IsLineRead here.unread line behind → TellsOn here.unread behind
-        → Goes trade providers (P.tells × P.D.tells) P.D.sight (map Plays (commands_by what)) here.point there None
-        → Reads trade providers (P.tells × P.D.tells) P.D.sight first here
-        → Reads trade providers (P.tells × P.D.tells) P.D.sight first (behind_line here there behind) }
+        → Goes trade providers (P.tells × P.D.tells) P.D.sight P.D.faults (map Plays (commands_by what)) here.point there None
+        → Reads trade providers (P.tells × P.D.tells) P.D.sight P.D.faults first here
+        → Reads trade providers (P.tells × P.D.tells) P.D.sight P.D.faults first (behind_line here there behind) }
     ensures over { (trade : Trade) (providers : List Provider) (first here : LinePoint P.D)
-        → IfSome here.unread (λ text. text ≡ []) → Reads trade providers (P.tells × P.D.tells) P.D.sight first
+        → IfSome here.unread (λ text. text ≡ []) → Reads trade providers (P.tells × P.D.tells) P.D.sight P.D.faults first
         here
-        → IsRead trade providers (P.tells × P.D.tells) P.D.sight first here.point statuses.Done }
+        → IsRead trade providers (P.tells × P.D.tells) P.D.sight P.D.faults first here.point statuses.Done }
     // The last line is written, or a front of it.
     ensures ended { (trade : Trade) (providers : List Provider) (first here : LinePoint P.D)
         (there : Point P.D) (lines : List Bytes) (end : End) (stop : Option Stop)
         → ((hands : Hands) → script_of hands providers here.number lines ≡ nothing_but end)
         → AreLinesLeft here.unread lines
-        → Goes trade providers (P.tells × P.D.tells) P.D.sight (Writes (end_text providers end) ∷ []) here.point there
+        → Goes trade providers (P.tells × P.D.tells) P.D.sight P.D.faults (Writes (end_text providers end) ∷ []) here.point there
         stop
-        → Reads trade providers (P.tells × P.D.tells) P.D.sight first here
-        → IsRead trade providers (P.tells × P.D.tells) P.D.sight first there (status_by end stop) }
+        → Reads trade providers (P.tells × P.D.tells) P.D.sight P.D.faults first here
+        → IsRead trade providers (P.tells × P.D.tells) P.D.sight P.D.faults first there (status_by end stop) }
     ensures stopped { (trade : Trade) (providers : List Provider) (first here : LinePoint P.D)
         (there : Point P.D) (spare : Option Patterns) (line : Bytes) (what : Line) (behind : Option Bytes) (stop : Stop)
         → said_by spare providers here.number line ≡ what → GoesOn what
         → IsLineRead here.unread line behind → TellsOn here.unread behind
-        → Goes trade providers (P.tells × P.D.tells) P.D.sight (map Plays (commands_by what)) here.point there (Some
+        → Goes trade providers (P.tells × P.D.tells) P.D.sight P.D.faults (map Plays (commands_by what)) here.point there (Some
         stop)
-        → Reads trade providers (P.tells × P.D.tells) P.D.sight first here
-        → IsRead trade providers (P.tells × P.D.tells) P.D.sight first there (stopped_status stop) }
+        → Reads trade providers (P.tells × P.D.tells) P.D.sight P.D.faults first here
+        → IsRead trade providers (P.tells × P.D.tells) P.D.sight P.D.faults first there (stopped_status stop) }
     ensures halted { (trade : Trade) (providers : List Provider) (first here : LinePoint P.D)
-        (stop : Stop) → stop ≢ WriteFault → Reads trade providers (P.tells × P.D.tells) P.D.sight first here
-        → IsRead trade providers (P.tells × P.D.tells) P.D.sight first here.point (stopped_status stop) }
+        (stop : Stop) → stop ≢ WriteFault → Reads trade providers (P.tells × P.D.tells) P.D.sight P.D.faults first here
+        → IsRead trade providers (P.tells × P.D.tells) P.D.sight P.D.faults first here.point (stopped_status stop) }
 {}

@@ -96,7 +96,7 @@ not_next (command ∷ unplayed) provider none is = none.0 provider cc
 -- ---- the law
 
 module _ (trade : Trade) (providers : List Provider) (tells : Type 0) {D : Type 0} (sight : D → Sight)
-    (due : List Command) (none : NoRestart due) (here there : Point D) where
+    (faults : D → ℕ) (due : List Command) (none : NoRestart due) (here there : Point D) where
   module _ (some : List (Step D)) (left : List Act) (front : Front trade providers tells here.state some left due)
       (since : (p : ℕ) → (steps.state_behind here.state some).counts p ≤ there.state.counts p) where
     held_is : there.held ≡ followed_by here.held (text_of trade providers here.state some)
@@ -162,16 +162,17 @@ module _ (trade : Trade) (providers : List Provider) (tells : Type 0) {D : Type 
           keep_sound step.behind some left commands rest are.1 may.1 told,
         )
 
-    moves_of : (stop : Option Stop) (goes : Goes trade providers tells sight (map Plays due) here there stop)
-        → AllMayCome trade due → Moves trade tells sight here.state there.state
+    moves_of : (stop : Option Stop) (goes : Goes trade providers tells sight faults (map Plays due) here there stop)
+        → AllMayCome trade due → Moves trade tells sight faults here.state there.state
     moves_of stop goes may = record {
       steps = goes.steps;
+      counted = goes.counted;
       sound = λ told. keep_sound here.state goes.steps goes.left due goes.acts_are goes.each may told;
       moments = goes.moments;
     }
 
-    moves_on_of : (goes : Goes trade providers tells sight (map Plays due) here there None) → AllMayCome trade due
-        → MovesOn trade tells sight here.state there.state
+    moves_on_of : (goes : Goes trade providers tells sight faults (map Plays due) here there None) → AllMayCome trade due
+        → MovesOn trade tells sight faults here.state there.state
     unfolding moves_of
     moves_on_of goes may =
         let front = front_of trade providers tells here.state goes.steps goes.left due goes.acts_are goes.each
@@ -185,14 +186,14 @@ module _ (trade : Trade) (providers : List Provider) (tells : Type 0) {D : Type 
 
   pub went : (stays : IsTrade trade → (luck : Luck) (sites : List Site) (command : Command) → Sound trade sites
       → IsUnforged trade luck sites command → Sound trade (played trade luck sites command).after)
-      → (stop : Option Stop) → Goes trade providers tells sight (map Plays due) here there stop
-      → ClockWent trade providers tells sight due here there stop
+      → (stop : Option Stop) → Goes trade providers tells sight faults (map Plays due) here there stop
+      → ClockWent trade providers tells sight faults due here there stop
   went stays stop goes =
       let front = front_of trade providers tells here.state goes.steps goes.left due goes.acts_are goes.each
       in record {
         moves = λ may. moves_of stays stop goes may;
         moves_on = λ may none. moves_on_of stays
-            (subst (λ (s : Option Stop). Goes trade providers tells sight (map Plays due) here there s) none goes) may;
+            (subst (λ (s : Option Stop). Goes trade providers tells sight faults (map Plays due) here there s) none goes) may;
         calls = calls_by goes.steps;
         unplayed = front.unplayed;
         plays = front.plays;
@@ -204,13 +205,13 @@ module _ (trade : Trade) (providers : List Provider) (tells : Type 0) {D : Type 
       }
 
 pub clock_went : (trade : Trade) (providers : List Provider) (tells : Type 0) {D : Type 0} (sight : D → Sight)
-    (more from moment : ℕ) (here there : Point D) (stop : Option Stop)
+    (faults : D → ℕ) (more from moment : ℕ) (here there : Point D) (stop : Option Stop)
     → (IsTrade trade → (luck : Luck) (sites : List Site) (command : Command) → Sound trade sites
     → IsUnforged trade luck sites command → Sound trade (played trade luck sites command).after)
-    → Goes trade providers tells sight (map Plays (clock_from more from moment)) here there stop
-    → ClockWent trade providers tells sight (clock_from more from moment) here there stop
-clock_went trade providers tells sight more from moment here there stop stays goes =
-    went trade providers tells sight (clock_from more from moment) (clock_is more from moment) here there stays stop goes
+    → Goes trade providers tells sight faults (map Plays (clock_from more from moment)) here there stop
+    → ClockWent trade providers tells sight faults (clock_from more from moment) here there stop
+clock_went trade providers tells sight faults more from moment here there stop stays goes =
+    went trade providers tells sight faults (clock_from more from moment) (clock_is more from moment) here there stays stop goes
 
 -- a turn whose disk gave back what was kept puts no frame in place of a due one
 none_put : (cut : Cut) (out : List (List Bytes)) → IsOfKept cut → put_instead cut ≡ Some out → ⊥

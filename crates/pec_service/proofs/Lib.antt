@@ -1,7 +1,9 @@
 pub mod CallLemmas
 pub mod ClockLemmas
+pub mod CompleteLemmas
 pub mod ConnectionLemmas
 pub mod IsolationLemmas
 pub mod PassingLemmas
 pub mod RunLemmas
+pub mod ShownLemmas
 pub mod StoredLemmas

@@ -45,9 +45,9 @@ in_any {D} sight tells trade other old new had =
     so p was now (Still stays) = Still stays
     so p was now (Made run none grows) = absurd (apart run)
 
-module _ {D : Type 0} (tells : Type 0) (sight : D → Sight) (asked : Asked) (status : Status)
+module _ {D : Type 0} (tells : Type 0) (sight : D → Sight) (faults : D → ℕ) (asked : Asked) (status : Status)
     (unread before after : Option Bytes) (home left : ℕ → Option D) (here there : Outside) (old new : AllCounts)
-    (ran : ServiceRanThrough tells sight asked status unread before after home left here there old new) where
+    (ran : ServiceRanThrough tells sight faults asked status unread before after home left here there old new) where
   abbrev happened : Happened
   happened = ran.ran.served.happened
 
@@ -67,7 +67,7 @@ module _ {D : Type 0} (tells : Type 0) (sight : D → Sight) (asked : Asked) (st
       → Passes trade (held tells sight home) (held tells sight found))
       (ended : (trade : Trade) → IsTrade trade → (home left found : ℕ → Option D) (from upto : ℕ → ℕ) (form : Form)
       (screens : List (List Patterns)) (opening : Opening) → IsOpening trade (disks_at tells sight home) form opening → opening.next ≡ NoMore
-      → AreAtHome trade home → MovesThrough tells sight home left from upto trade form screens opening.journals
+      → AreAtHome trade home → MovesThrough tells sight faults home left from upto trade form screens opening.journals
       → AreFoundAs tells sight trade left found → Passes trade (held tells sight home) (held tells sight found))
       (found : ℕ → Option D) where
     abbrev Passed : Trade → Type 0
@@ -78,7 +78,8 @@ module _ {D : Type 0} (tells : Type 0) (sight : D → Sight) (asked : Asked) (st
         → (happened.course.opening.next ≡ NoMore) ⊎ (happened.course.opening.next ≢ NoMore) → Passed (world happened)
     by_next begins form is at_home left_as (inl all) =
         ended (world happened) (world_is begins form is) home left found old.devices.disks new.devices.disks form
-        asked.screens happened.course.opening (opening_is begins form is) all at_home (ran.through.served begins form is all) left_as
+        asked.screens happened.course.opening (opening_is begins form is) all at_home
+        ((ran.through.served begins form is all).through) left_as
     by_next begins form is at_home left_as (inr some) =
         stopped (world happened) form home left found at_home (ran.through.stopped begins form is some) left_as
 
@@ -110,28 +111,28 @@ module _ {D : Type 0} (tells : Type 0) (sight : D → Sight) (asked : Asked) (st
 -- ---- runs one after another
 
 -- what the laws of a run and of a service say, where it is found as it left its disks
-abbrev CallPasses : {D : Type 0} → Type 0 → (D → Sight) → Trade → Type 0
-CallPasses {D} tells sight trade =
-    (call : OneCall D) (next : ℕ → Option D) → CalledHonestly tells sight trade call
+abbrev CallPasses : {D : Type 0} → Type 0 → (D → Sight) → (D → ℕ) → Trade → Type 0
+CallPasses {D} tells sight faults trade =
+    (call : OneCall D) (next : ℕ → Option D) → CalledHonestly tells sight faults trade call
     → AreFoundAs tells sight trade (left_of call) next
     → Passes trade (held tells sight (home_of call)) (held tells sight next)
 
-module _ {D : Type 0} (tells : Type 0) (sight : D → Sight) (trade : Trade) where
+module _ {D : Type 0} (tells : Type 0) (sight : D → Sight) (faults : D → ℕ) (trade : Trade) where
   pub call_passes :
-      ((run : OneRun D) (next : ℕ → Option D) → RanHonestly tells sight trade run
+      ((run : OneRun D) (next : ℕ → Option D) → RanHonestly tells sight faults trade run
       → AreFoundAs tells sight trade run.left next → Passes trade (held tells sight run.home) (held tells sight next))
-      → ((service : OneService D) (next : ℕ → Option D) → ServedHonestly tells sight trade service
+      → ((service : OneService D) (next : ℕ → Option D) → ServedHonestly tells sight faults trade service
       → AreFoundAs tells sight trade service.left next
       → Passes trade (held tells sight service.home) (held tells sight next))
-      → CallPasses tells sight trade
+      → CallPasses tells sight faults trade
   call_passes plays serves (Plays run) next honest left_as = plays run next honest left_as
   call_passes plays serves (Serves service) next honest left_as = serves service next honest left_as
 
-  module _ (ended : CallPasses tells sight trade)
+  module _ (ended : CallPasses tells sight faults trade)
       (passed : (old new : ℕ → Option D) → Passes trade (held tells sight old) (held tells sight new)
       → AreFitting trade (held tells sight old) → AreFitting trade (held tells sight new)) where
     pub calls_on : (call : OneCall D) (more : List (OneCall D)) → AreFitting trade (held tells sight (home_of call))
-        → AreCallsOn tells sight trade call more
+        → AreCallsOn tells sight faults trade call more
         → AreFitting trade (held tells sight (home_of (last_call call more)))
     calls_on call [] fitting are = fitting
     calls_on call (next ∷ more) fitting are =

@@ -40,10 +40,10 @@ abbrev pub left_of : {D : Type 0} → OneCall D → ℕ → Option D
 left_of (Plays run) = run.left
 left_of (Serves service) = service.left
 
-module _ {D : Type 0} (tells : Type 0) (sight : D → Sight) (trade : Trade) where
+module _ {D : Type 0} (tells : Type 0) (sight : D → Sight) (faults : D → ℕ) (trade : Trade) where
   -- It served in this world, on the disks of its providers.
   pub record ServedHonestly (service : OneService D) : Type 0 where
-    pub ran : ServiceRanThrough tells sight service.asked service.status service.unread service.before service.after
+    pub ran : ServiceRanThrough tells sight faults service.asked service.status service.unread service.before service.after
         service.home service.left service.here service.there service.old service.new
     pub world_is : stage_of ran.ran.served.happened.early ran.ran.served.happened.directory ≡ Begins
         → world ran.ran.served.happened ≡ trade
@@ -51,7 +51,7 @@ module _ {D : Type 0} (tells : Type 0) (sight : D → Sight) (trade : Trade) whe
 
   -- It ran in this world, and no forged frame was injected.
   abbrev pub CalledHonestly : OneCall D → Type 0
-  CalledHonestly (Plays run) = RanHonestly tells sight trade run
+  CalledHonestly (Plays run) = RanHonestly tells sight faults trade run
   CalledHonestly (Serves service) = ServedHonestly service
 
   -- So did these, one after another, each on the disks that the one before left, or that a crash left of them.

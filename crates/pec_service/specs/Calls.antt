@@ -110,12 +110,12 @@ module _ (trade : Trade) (providers : List Provider) {D : Type 0} where
 
   -- Of the commands that are due some were played from here, one after another; and what a crash leaves at each moment of
   -- that is said, where each of the commands may come in any state.
-  pub record ClockWent (tells : Type 0) (sight : D → Sight) (due : List Command) (here there : Point D) (stop : Option Stop)
-      : Type 0 where
+  pub record ClockWent (tells : Type 0) (sight : D → Sight) (faults : D → ℕ) (due : List Command) (here there : Point D)
+      (stop : Option Stop) : Type 0 where
     pub calls : List Call
     pub unplayed : List Command
     pub plays : commands_of calls ++ unplayed ≡ due
     pub are : AreCalls trade tells (seen here.state) calls
     pub ends : CallsEnd (seen here.state) calls unplayed here.held there stop
-    pub moves : AllMayCome trade due → Moves trade tells sight here.state there.state
-    pub moves_on : AllMayCome trade due → stop ≡ None → MovesOn trade tells sight here.state there.state
+    pub moves : AllMayCome trade due → Moves trade tells sight faults here.state there.state
+    pub moves_on : AllMayCome trade due → stop ≡ None → MovesOn trade tells sight faults here.state there.state

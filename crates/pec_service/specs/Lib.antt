@@ -1,5 +1,6 @@
 pub mod Calling
 pub mod Calls
+pub mod Complete
 pub mod Connections
 pub mod Isolation
 pub mod OfRuns
@@ -9,4 +10,5 @@ pub mod Passes
 pub mod Runs
 pub mod Services
 pub mod ShareLaws
+pub mod Shown
 pub mod Through

@@ -2,4 +2,4 @@
 pub use Rattle.pec_runs.specs.Moves.{Moves, MovesOn}
 pub use Rattle.pec_runs.specs.Plays.{HasMemory, IsUnchanged, RoseBy, faults_at, faults_at_home, is_change}
 pub use Rattle.pec_runs.specs.Ran.{Behind, LeavesOff}
-pub use Rattle.pec_runs.specs.Steps.{Act, Climbs, Goes, IsMoment, NoMemory, Plays, State, Stop, WriteFault, Writes}
+pub use Rattle.pec_runs.specs.Steps.{Act, AreCounted, Climbs, Goes, IsMoment, NoMemory, Plays, State, Stop, WriteFault, Writes}

@@ -25,7 +25,7 @@ use Rattle.pec_runs.specs.Happened.{IsSetting, Setting, providers_in, trade_in}
 use Rattle.pec_runs.specs.Openings.{AreLeft, AreUntouched, Disks, Form, Run, Resume, IsOpening, Next, NoMore, Holds, Unfits, Fails, Stops, Opening, disks_at, next_of, opened_all}
 use Rattle.pec_runs.specs.Plays.{Finish, finish_text}
 use Rattle.pec_runs.specs.Plays as plays
-use Rattle.pec_runs.specs.Ran.{Counts, TellsAs}
+use Rattle.pec_runs.specs.Ran.{Counts, TellsAs, WritesAt}
 use Rattle.pec_runs.specs.Ran as runs
 use Rattle.pec_runs.specs.Statuses.{Status}
 use Rattle.pec_runs.specs.Transcripts.{StoodStill}
@@ -221,6 +221,7 @@ module _ (asked : Asked) (status : Status) (before after : Option Bytes) (tells 
     pub record HasJournals (form : Form) : Type 0 where
       pub opening : IsOpening (trade_in setting) old_disks form course.opening
       pub looked_at : IsLookedAt old_disks (next_of course.opening) course.holds course.opening.next
+      pub writes : WritesAt status course.opening.next
       pub goes_on : GoesOn form course.opening.next
 
   -- The run ended with all disks as they were, and nobody was let in.

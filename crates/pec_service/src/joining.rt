@@ -50,8 +50,8 @@ pub fn calls_are_joined<P: Depot>()
 pub fn acts_are_calls<P: Depot>()
     ensures went { (trade : Trade) (providers : List Provider) (more from moment : ℕ) (here there : Point P.D)
         (stop : Option Stop)
-        → Goes trade providers (P.tells × P.D.tells) P.D.sight (map Plays (clock_from more from moment)) here there stop
-        → ClockWent trade providers (P.tells × P.D.tells) P.D.sight (clock_from more from moment) here there stop }
+        → Goes trade providers (P.tells × P.D.tells) P.D.sight P.D.faults (map Plays (clock_from more from moment)) here there stop
+        → ClockWent trade providers (P.tells × P.D.tells) P.D.sight P.D.faults (clock_from more from moment) here there stop }
     ensures may_come { (trade : Trade) (more from moment : ℕ) → moment < END_OF_TIME
         → AllMayCome trade (clock_from more from moment) }
 {

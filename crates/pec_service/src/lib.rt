@@ -3,13 +3,16 @@
 //! contract is the statement.
 #![tactic(auto)]
 
+mod complete;
 mod headline;
 mod isolation;
 mod joining;
 mod passing;
 mod replies;
 mod runs;
+mod showing;
 
+pub use complete::a_service_without_faults_is_complete;
 pub use headline::a_services_books_belong_to_the_ledger;
 pub use isolation::{a_caller_is_answered_its_own, a_runs_callers_are_answered_their_own};
 pub use joining::{acts_are_calls, calls_are_joined, connections_are_joined};
@@ -21,3 +24,4 @@ pub use runs::{
     a_journal_is_refused_at_its_head, a_run_without_faults_serves_all,
     a_serving_runs_books_belong_to_the_ledger,
 };
+pub use showing::{a_serving_run_shows_the_ledger, what_is_shown_is_the_ledgers};

@@ -19,7 +19,7 @@ use pec_runs::{a_run_passes_its_disks_on, disks_are_passed_on, what_is_passed_on
 pub fn a_service_passes_its_disks_on<P: Depot>()
     ensures ended { P.tells × P.D.tells → (trade : Trade) (asked : Asked) (status : Status)
         (unread before after : Option Bytes) (home left found : ℕ → Option P.D) (here there : Outside) (old new : AllCounts)
-        (ran : ServiceRanThrough (P.tells × P.D.tells) P.D.sight asked status unread before after home left here there old
+        (ran : ServiceRanThrough (P.tells × P.D.tells) P.D.sight P.D.faults asked status unread before after home left here there old
         new)
         → (stage_of ran.ran.served.happened.early ran.ran.served.happened.directory ≡ Begins
         → world ran.ran.served.happened ≡ trade)
@@ -27,7 +27,7 @@ pub fn a_service_passes_its_disks_on<P: Depot>()
         → Passes trade (held (P.tells × P.D.tells) P.D.sight home) (held (P.tells × P.D.tells) P.D.sight found) }
     ensures opening { P.tells × P.D.tells → (asked : Asked) (status : Status)
         (unread before after : Option Bytes) (home left found : ℕ → Option P.D) (here there : Outside) (old new : AllCounts)
-        (ran : ServiceRanThrough (P.tells × P.D.tells) P.D.sight asked status unread before after home left here there old
+        (ran : ServiceRanThrough (P.tells × P.D.tells) P.D.sight P.D.faults asked status unread before after home left here there old
         new)
         → stage_of ran.ran.served.happened.early ran.ran.served.happened.directory ≡ Begins
         → (form : Form) → ran.ran.served.happened.form ≡ Some form
@@ -37,27 +37,27 @@ pub fn a_service_passes_its_disks_on<P: Depot>()
         (held (P.tells × P.D.tells) P.D.sight found) }
     ensures had { P.tells × P.D.tells → (asked : Asked) (status : Status)
         (unread before after : Option Bytes) (home left found : ℕ → Option P.D) (here there : Outside) (old new : AllCounts)
-        (ran : ServiceRanThrough (P.tells × P.D.tells) P.D.sight asked status unread before after home left here there old
+        (ran : ServiceRanThrough (P.tells × P.D.tells) P.D.sight P.D.faults asked status unread before after home left here there old
         new)
         (begins : stage_of ran.ran.served.happened.early ran.ran.served.happened.directory ≡ Begins)
         (form : Form) (is : ran.ran.served.happened.form ≡ Some form)
         (all : ran.ran.served.happened.course.opening.next ≡ NoMore)
         → AreFoundBetween (P.tells × P.D.tells) P.D.sight (world ran.ran.served.happened) home
-        (disks_in (ran.through.served begins form is all).first) found
+        (disks_in (ran.through.served begins form is all).through.first) found
         → Passes (world ran.ran.served.happened) (held (P.tells × P.D.tells) P.D.sight home)
         (held (P.tells × P.D.tells) P.D.sight found) }
     ensures killed { P.tells × P.D.tells → (asked : Asked) (status : Status)
         (unread before after : Option Bytes) (home left found : ℕ → Option P.D) (here there : Outside) (old new : AllCounts)
-        (ran : ServiceRanThrough (P.tells × P.D.tells) P.D.sight asked status unread before after home left here there old
+        (ran : ServiceRanThrough (P.tells × P.D.tells) P.D.sight P.D.faults asked status unread before after home left here there old
         new)
         (begins : stage_of ran.ran.served.happened.early ran.ran.served.happened.directory ≡ Begins)
         (form : Form) (is : ran.ran.served.happened.form ≡ Some form)
         (all : ran.ran.served.happened.course.opening.next ≡ NoMore)
         → AreAtHome (world ran.ran.served.happened) home → (number : ℕ)
-        → number ≤ length (ran.through.served begins form is all).moves.steps
+        → number ≤ length (ran.through.served begins form is all).through.moves.steps
         → AreFoundWithin (P.tells × P.D.tells) P.D.sight (world ran.ran.served.happened) number
-        (ran.through.served begins form is all).first (ran.through.served begins form is all).last
-        (ran.through.served begins form is all).moves.steps found
+        (ran.through.served begins form is all).through.first (ran.through.served begins form is all).through.last
+        (ran.through.served begins form is all).through.moves.steps found
         → Passes (world ran.ran.served.happened) (held (P.tells × P.D.tells) P.D.sight home)
         (held (P.tells × P.D.tells) P.D.sight found) }
 {
@@ -70,7 +70,7 @@ pub fn a_service_passes_its_disks_on<P: Depot>()
 pub fn calls_go_on_from_one_another<P: Depot>()
     ensures fitting { P.tells × P.D.tells → (trade : Trade) (first : OneCall P.D) (more : List (OneCall P.D))
         → AreEmpty trade (held (P.tells × P.D.tells) P.D.sight (home_of first))
-        → AreCallsOn (P.tells × P.D.tells) P.D.sight trade first more
+        → AreCallsOn (P.tells × P.D.tells) P.D.sight P.D.faults trade first more
         → AreFitting trade (held (P.tells × P.D.tells) P.D.sight (home_of (last_call first more))) }
 {
     what_is_passed_on_fits::<P>();

@@ -11,11 +11,13 @@ use Rattle.pec_directory.specs.Directory.{Kept, Provider, providers_of}
 use Rattle.pec_ledger.specs.Trade.{Trade}
 use Rattle.pec_plays.specs.Commands.{Command}
 use Rattle.pec_http.specs.declared.serving.Served.{Served}
-use Rattle.pec_service.specs.OfRuns.{Behind, LeavesOff}
-use Rattle.pec_service.specs.Calls.{AreCalls, Call, State, calls_text, clock_from, commands_of, state_behind}
+use Rattle.pec_outside.specs.DiskModel.{Sight}
+use Rattle.pec_service.specs.OfRuns.{Behind, LeavesOff, Moves, MovesOn, State as RunState}
+use Rattle.pec_service.specs.Calls.{AreCalls, Call, State, calls_text, clock_from, commands_of, seen, state_behind}
 use Rattle.pec_service.specs.Connections.{Connection, IsConnection, IsWhole, Place, connection_text}
 use Rattle.pec_service.specs.Services.{AllServed, AreConnections, Halted, NoConnection, NoMoment, Service, connections_text, next_in, place_behind}
 use Rattle.pec_service.specs.Services as services
+use Rattle.pec_service.specs.Through.{AreMoved}
 use Rattle.pec_serving.specs.Serving.{IsServedNext, ServesSo, served_line}
 use Rattle.pec_serving.specs.declared.serving.Ending.TheVariants as endings
 use Rattle.pec_serving.proofs.WritingLemmas.{followed_nothing, followed_twice, part_behind}
@@ -156,28 +158,48 @@ moved there state =
 
 -- ---- how far a service is
 
--- So many connections were served whole, from here to now, and written.
-pub record Going (trade : Trade) (tells : Type 0) (kept : List Kept) (here now : Place) (served : ℕ) (before after : Option Bytes) : Type 0 where
+-- So many connections were served whole, from here to now, and written; the network moved on so from the first state.
+pub record Going (trade : Trade) (tells : Type 0) {D : Type 0} (sight : D → Sight) (faults : D → ℕ) (kept : List Kept)
+    (first at : RunState D) (here now : Place) (served : ℕ) (before after : Option Bytes) : Type 0 where
   pub whole : List Connection
   pub are : AreConnections trade tells kept here whole
   pub all_whole : All (IsWhole kept) whole
   pub count : length whole ≡ served
   pub behind : place_behind here whole ≡ now
   pub held : after ≡ followed_by before (connections_text trade kept here whole)
+  pub moved : AreMoved trade tells sight faults first whole at
 
-pub goes_none : (trade : Trade) (tells : Type 0) (kept : List Kept) (here : Place) (before : Option Bytes)
-    → Going trade tells kept here here 0 before before
-goes_none trade tells kept here before = record {
+pub goes_none : (trade : Trade) (tells : Type 0) {D : Type 0} (sight : D → Sight) (faults : D → ℕ) (kept : List Kept)
+    (first : RunState D) (here : Place) (before : Option Bytes)
+    → Going trade tells sight faults kept first first here here 0 before before
+goes_none trade tells sight faults kept first here before = record {
   whole = [];
   are = tt;
   all_whole = All-nil (IsWhole kept);
   count = refl;
   behind = refl;
   held = followed_nothing before;
+  moved = refl;
 }
 
-module _ (trade : Trade) (tells : Type 0) (kept : List Kept) (laws : CallLaws trade tells) (joins : ConnectionLaws trade tells kept) (here now : Place)
-    (served : ℕ) (before mid : Option Bytes) (going : Going trade tells kept here now served before mid) where
+-- one connection more
+moved_one : (trade : Trade) (tells : Type 0) {D : Type 0} (sight : D → Sight) (faults : D → ℕ) (first at behind : RunState D)
+    (whole : List Connection) (connection : Connection) → AreMoved trade tells sight faults first whole at
+    → connection.behind.network ≡ seen behind → MovesOn trade tells sight faults at behind
+    → AreMoved trade tells sight faults first (whole ++ connection ∷ []) behind
+moved_one trade tells sight faults first at behind [] connection moved same moves =
+    (behind, same, subst (λ (s : RunState _). MovesOn trade tells sight faults s behind) moved moves, refl)
+moved_one trade tells sight faults first at behind (one ∷ whole) connection moved same moves = (
+  moved.0,
+  moved.1,
+  moved.2,
+  moved_one trade tells sight faults moved.0 at behind whole connection moved.3 same moves,
+)
+
+module _ (trade : Trade) (tells : Type 0) {D : Type 0} (sight : D → Sight) (faults : D → ℕ) (kept : List Kept)
+    (laws : CallLaws trade tells) (joins : ConnectionLaws trade tells kept) (first at : RunState D) (here now : Place)
+    (served : ℕ) (before mid : Option Bytes) (going : Going trade tells sight faults kept first at here now served before mid)
+  where
   -- ---- one more
 
   module _ (there : Place) (moment : ℕ) (told : Served) (next : IsServedNext trade tells kept now there moment told)
@@ -250,8 +272,9 @@ module _ (trade : Trade) (tells : Type 0) (kept : List Kept) (laws : CallLaws tr
 
       pub goes : unplayed ≡ [] → state_behind there.network calls ≡ left → (after : Option Bytes)
           → after ≡ followed_by line_held (calls_text trade (providers_of kept) there.network calls)
-          → Going trade tells kept here (moved there left) (served + 1) before after
-      goes none is after written = record {
+          → (behind : RunState D) → left ≡ seen behind → MovesOn trade tells sight faults at behind
+          → Going trade tells sight faults kept first behind here (moved there left) (served + 1) before after
+      goes none is after written behind_state same moves = record {
         whole = going.whole ++ then_at left ∷ [];
         are = one_is left (at_same is) (at_later is);
         all_whole = All-append (IsWhole kept) going.whole (then_at left ∷ []) going.all_whole
@@ -260,6 +283,7 @@ module _ (trade : Trade) (tells : Type 0) (kept : List Kept) (laws : CallLaws tr
         behind = joins.behind here going.whole (then_at left);
         held = written ∙ text_held (calls_text trade (providers_of kept) there.network calls)
             ∙ ap (followed_by before) (sym (all_text left));
+        moved = moved_one trade tells sight faults first at behind_state going.whole (then_at left) going.moved same moves;
       }
 
       -- the service that halted within the connection, which left the network so
@@ -268,8 +292,9 @@ module _ (trade : Trade) (tells : Type 0) (kept : List Kept) (laws : CallLaws tr
 
       pub broke : (wanted : ℕ) → served < wanted → state_behind there.network calls ≡ left → (after : Option Bytes)
           → WrotePart mid after (served_line told ++ calls_text trade (providers_of kept) there.network calls)
-          → ServesSo trade tells kept wanted here (moved there left) before after endings.WriteFault
-      broke wanted few is after part = record {
+          → (last : RunState D) → Moves trade tells sight faults at last
+          → ServesSo trade tells sight faults kept wanted first last here (moved there left) before after endings.WriteFault
+      broke wanted few is after part last moves = record {
         service = record { whole = going.whole; part = Some (then_at left); ending = Halted };
         is = record {
           each = one_is left (at_same is) (at_later is);
@@ -287,6 +312,7 @@ module _ (trade : Trade) (tells : Type 0) (kept : List Kept) (laws : CallLaws tr
         written = subst (λ (t : Bytes). WrotePart before after t) (sym (all_text left))
             (part_behind before mid after whole_text
             (served_line told ++ calls_text trade (providers_of kept) there.network calls) going.held part);
+        moved = record { mid = at; whole = going.moved; part = moves };
       }
 
       -- memory ran out at the next command
@@ -295,29 +321,31 @@ module _ (trade : Trade) (tells : Type 0) (kept : List Kept) (laws : CallLaws tr
           → ((provider : ℕ) → (state_behind there.network calls).counts provider ≤ left.counts provider)
           → (after : Option Bytes)
           → after ≡ followed_by line_held (calls_text trade (providers_of kept) there.network calls)
-          → ServesSo trade tells kept wanted here (moved there left) before after endings.NoMemory
-      lacks wanted few leaves later after written =
-          let at = state_behind there.network calls
+          → (last : RunState D) → Moves trade tells sight faults at last
+          → ServesSo trade tells sight faults kept wanted first last here (moved there left) before after endings.NoMemory
+      lacks wanted few leaves later after written last moves =
+          let then = state_behind there.network calls
           in let same = sym (behind_same trade tells kept laws now there moment told next calls unplayed plays are)
-          in let behind = joins.behind here going.whole (then_at at)
+          in let behind = joins.behind here going.whole (then_at then)
           in record {
-            service = record { whole = going.whole; part = Some (then_at at); ending = Halted };
+            service = record { whole = going.whole; part = Some (then_at then); ending = Halted };
             is = record {
-              each = one_is at same (behind_later trade tells kept laws now there moment told next calls unplayed plays are);
+              each = one_is then same (behind_later trade tells kept laws now there moment told next calls unplayed plays are);
               whole = going.all_whole;
               ends = (omega (arith, few, going.count), refl);
               leaves = (
-                subst (λ (p : Place). LeavesOff trade p.network.sites (next_in kept (then_at at)) left.sites) (sym behind)
-                    (subst (λ (o : Option Command). LeavesOff trade at.sites o left.sites) (sym (next_is at)) leaves),
+                subst (λ (p : Place). LeavesOff trade p.network.sites (next_in kept (then_at then)) left.sites) (sym behind)
+                    (subst (λ (o : Option Command). LeavesOff trade then.sites o left.sites) (sym (next_is then)) leaves),
                 ap (λ (p : Place). p.replies) (sym behind),
               );
-              later = λ provider. (let e : (place_behind here (going.whole ++ then_at at ∷ [])).network.counts provider
-                  ≡ at.counts provider = ap (λ (p : Place). p.network.counts provider) behind
+              later = λ provider. (let e : (place_behind here (going.whole ++ then_at then ∷ [])).network.counts provider
+                  ≡ then.counts provider = ap (λ (p : Place). p.network.counts provider) behind
                   in omega (arith, e, later provider));
             };
             ending_is = refl;
             written = written ∙ text_held (calls_text trade (providers_of kept) there.network calls)
-                ∙ ap (followed_by before) (sym (all_text at));
+                ∙ ap (followed_by before) (sym (all_text then));
+            moved = record { mid = at; whole = going.moved; part = moves };
           }
         where
           next_is : (state : State) → next_in kept (then_at state) ≡ slice_get unplayed 0
@@ -355,8 +383,9 @@ module _ (trade : Trade) (tells : Type 0) (kept : List Kept) (laws : CallLaws tr
       → left.network.sites ≡ (place_behind here (going.whole ++ [])).network.sites
   sites_is left same = ap (λ (s : State). s.sites) same ∙ ap (λ (p : Place). p.network.sites) (sym place_is)
 
-  pub all_served : (wanted : ℕ) → served ≡ wanted → ServesSo trade tells kept wanted here now before mid endings.AllServed
-  all_served wanted is = record {
+  pub all_served : (wanted : ℕ) → served ≡ wanted → Moves trade tells sight faults at at
+      → ServesSo trade tells sight faults kept wanted first at here now before mid endings.AllServed
+  all_served wanted is moves = record {
     service = between AllServed;
     is = record {
       each = each_is;
@@ -367,11 +396,13 @@ module _ (trade : Trade) (tells : Type 0) (kept : List Kept) (laws : CallLaws tr
     };
     ending_is = refl;
     written = written_all;
+    moved = record { mid = at; whole = going.moved; part = moves };
   }
 
   pub none_met : (wanted : ℕ) → served < wanted → (left : Place) → left.network ≡ now.network → left.replies ≡ now.replies
-      → ServesSo trade tells kept wanted here left before mid endings.NoConnection
-  none_met wanted few left same replies = record {
+      → (last : RunState D) → Moves trade tells sight faults at last
+      → ServesSo trade tells sight faults kept wanted first last here left before mid endings.NoConnection
+  none_met wanted few left same replies last moves = record {
     service = between NoConnection;
     is = record {
       each = each_is;
@@ -382,12 +413,14 @@ module _ (trade : Trade) (tells : Type 0) (kept : List Kept) (laws : CallLaws tr
     };
     ending_is = refl;
     written = written_all;
+    moved = record { mid = at; whole = going.moved; part = moves };
   }
 
   pub none_told : (wanted : ℕ) → served < wanted → (left : Place) → left.network ≡ now.network
       → left.replies ≡ replied now.replies (Some []) 0
-      → ServesSo trade tells kept wanted here left before mid endings.NoMoment
-  none_told wanted few left same replies = record {
+      → (last : RunState D) → Moves trade tells sight faults at last
+      → ServesSo trade tells sight faults kept wanted first last here left before mid endings.NoMoment
+  none_told wanted few left same replies last moves = record {
     service = between NoMoment;
     is = record {
       each = each_is;
@@ -401,13 +434,15 @@ module _ (trade : Trade) (tells : Type 0) (kept : List Kept) (laws : CallLaws tr
     };
     ending_is = refl;
     written = written_all;
+    moved = record { mid = at; whole = going.moved; part = moves };
   }
 
   -- the line of the connection wasn't written whole
   module _ (there : Place) (moment : ℕ) (told : Served) (next : IsServedNext trade tells kept now there moment told) where
     pub line_broke : (wanted : ℕ) → served < wanted → (after : Option Bytes) → WrotePart mid after (served_line told)
-        → ServesSo trade tells kept wanted here there before after endings.WriteFault
-    line_broke wanted few after part =
+        → (last : RunState D) → Moves trade tells sight faults at last
+        → ServesSo trade tells sight faults kept wanted first last here there before after endings.WriteFault
+    line_broke wanted few after part last moves =
         broke there moment told next (followed_by mid (served_line told)) refl there.network []
         (clock_from (length kept) 0 moment) refl tt wanted few refl after
-        (subst (λ (t : Bytes). WrotePart mid after t) (sym (append-nil (served_line told))) part)
+        (subst (λ (t : Bytes). WrotePart mid after t) (sym (append-nil (served_line told))) part) last moves

@@ -3,6 +3,7 @@ use Rattle.std.specs.Prelude.{◌≡◌, ℕ, List, [], ◌∷◌, Option, Some,
 use Rattle.std.specs.Fmt.{decimal}
 use Rattle.pec_types.specs.Bytes.{Bytes}
 use Rattle.pec_outside.specs.Doors.{Reply as ToldReply, replied}
+use Rattle.pec_outside.specs.DiskModel.{Sight}
 use Rattle.pec_outside.specs.Flow.{WrotePart, followed_by}
 use Rattle.pec_directory.specs.Directory.{Kept}
 use Rattle.pec_ledger.specs.Trade.{Trade}
@@ -13,6 +14,8 @@ use Rattle.pec_script.specs.Texts.{text_of}
 use Rattle.pec_service.specs.Connections.{Connection, IsConnection, Place, outcome_line}
 use Rattle.pec_service.specs.Services.{AllServed, Halted, IsService, NoConnection, NoMoment, Service, service_text}
 use Rattle.pec_service.specs.Services as services
+use Rattle.pec_service.specs.OfRuns.{State as RunState}
+use Rattle.pec_service.specs.Through.{ServiceMoved}
 use Rattle.pec_serving.specs.Playing.{state_of}
 use Rattle.pec_serving.specs.declared.next.Came.{Came}
 use Rattle.pec_serving.specs.declared.next.Came.TheVariants as came
@@ -72,10 +75,13 @@ abbrev pub AreWritten : Ending → (before after : Option Bytes) → Bytes → T
 AreWritten endings.WriteFault before after text = WrotePart before after text
 AreWritten _ before after text = after ≡ followed_by before text
 
--- A service of so many connections went from here to there, and its lines were written.
-pub record ServesSo (trade : Trade) (tells : Type 0) (kept : List Kept) (wanted : ℕ) (here there : Place)
-    (before after : Option Bytes) (ending : Ending) : Type 0 where
+-- A service of so many connections went from here to there, and its lines were written; and the network moved on from the
+-- first state to the last connection by connection.
+pub record ServesSo (trade : Trade) (tells : Type 0) {D : Type 0} (sight : D → Sight) (faults : D → ℕ) (kept : List Kept)
+    (wanted : ℕ) (first last : RunState D) (here there : Place) (before after : Option Bytes) (ending : Ending) : Type 0
+    where
   pub service : Service
   pub is : IsService trade tells kept wanted here there service
   pub ending_is : service.ending ≡ ending_of ending
   pub written : AreWritten ending before after (service_text trade kept here service)
+  pub moved : ServiceMoved trade tells sight faults first last service

@@ -36,7 +36,7 @@ pub(crate) fn answer<D: Disk, J: Judge, C: Source + Sink>(
     ensures keeps { Keeps D.sight D.faults D.tells network result.0 }
     // What a crash may leave at any moment of it.
     ensures moves { (elsewhere : ℕ → ℕ) → moment < END_OF_TIME
-        → MovesOn (world_of (⟦<HmacSealer as Sealer>⟧.seals) network) D.tells D.sight
+        → MovesOn (world_of (⟦<HmacSealer as Sealer>⟧.seals) network) D.tells D.sight D.faults
         (state_in D.faults elsewhere [] network) (state_in D.faults elsewhere [] result.0) }
     ensures read_fault { result.1 ≡ served.ReadFault → HasRisen (C.faults connection.old) (C.faults connection.new) }
     ensures write_fault { result.1 ≡ served.WriteFault → HasRisen (C.faults connection.old) (C.faults connection.new) }

@@ -39,7 +39,7 @@ where
     // Where disks tell what they hold, what is kept stands on them as the first command is played.
     ensures clock { (P.tells × D.tells → AllStand D.sight network.old.providers) → (elsewhere : ℕ → ℕ)
         → ClockWent (world_of S.seals network.old) (providers_of network.old.kept)
-        (P.tells × D.tells) D.sight (clock_from (length network.old.kept) 0 moment)
+        (P.tells × D.tells) D.sight D.faults (clock_from (length network.old.kept) 0 moment)
         (point_of D.faults elsewhere [] network.old (W.held out.old) (W.faults out.old))
         (point_of D.faults elsewhere [] network.new (W.held out.new) (W.faults out.new)) (stop_in result) }
     ensures keeps { Keeps D.sight D.faults D.tells network.old network.new }

@@ -43,7 +43,7 @@ pub(crate) fn next<D: Disk, J: Judge, T: Ticks, R: Door>(
         result.1 }
     ensures keeps { Keeps D.sight D.faults D.tells network result.0 }
     // What a crash may leave at any moment of it.
-    ensures moves { (elsewhere : ℕ → ℕ) → MovesOn (world_of (⟦<HmacSealer as Sealer>⟧.seals) network) D.tells D.sight
+    ensures moves { (elsewhere : ℕ → ℕ) → MovesOn (world_of (⟦<HmacSealer as Sealer>⟧.seals) network) D.tells D.sight D.faults
         (state_in D.faults elsewhere [] network) (state_in D.faults elsewhere [] result.0) }
     ensures no_moment { result.1 ≡ Came.NoMoment → HasRisen (T.faults ticks.old) (T.faults ticks.new) }
     ensures no_connection { result.1 ≡ Came.NoConnection → HasRisen (R.faults door.old) (R.faults door.new) }

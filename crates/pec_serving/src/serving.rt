@@ -58,14 +58,15 @@ where
     J::Spare: Send,
     // Where disks tell what they hold, what is kept stands on them as the service begins.
     ensures serves { (P.tells × D.tells → AllStand D.sight network.providers) → (elsewhere : ℕ → ℕ)
-        → ServesSo (world_of (⟦<HmacSealer as Sealer>⟧.seals) network) (P.tells × D.tells) network.kept wanted
+        → ServesSo (world_of (⟦<HmacSealer as Sealer>⟧.seals) network) (P.tells × D.tells) D.sight D.faults network.kept
+        wanted (state_in D.faults elsewhere [] network) (state_in D.faults elsewhere [] result.0)
         (place_of D.faults elsewhere network (T.coming ticks.old) (R.requests door.old) (R.replies door.old))
         (place_of D.faults elsewhere result.0 (T.coming ticks.new) (R.requests door.new) (R.replies door.new))
         (W.held out.old) (W.held out.new) result.1 }
     ensures keeps { Keeps D.sight D.faults D.tells network result.0 }
     // What a crash may leave at any moment of it.
     ensures moves { (P.tells × D.tells → AllStand D.sight network.providers) → (elsewhere : ℕ → ℕ)
-        → Moves (world_of (⟦<HmacSealer as Sealer>⟧.seals) network) (P.tells × D.tells) D.sight
+        → Moves (world_of (⟦<HmacSealer as Sealer>⟧.seals) network) (P.tells × D.tells) D.sight D.faults
         (state_in D.faults elsewhere [] network) (state_in D.faults elsewhere [] result.0) }
     ensures home { P.tells → Alike (P.home depot.old) (P.home depot.new) }
     ensures last { Alike (P.last depot.old) (P.last depot.new) }

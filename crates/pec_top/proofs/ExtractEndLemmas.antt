@@ -18,7 +18,7 @@ use Rattle.pec_runs.specs.Openings.{AreLeft, AreUntouched, Form, IsOpening, Next
 use Rattle.pec_runs.specs.Openings.{Opening, Resume, disks_at, next_of, opened_all}
 use Rattle.pec_runs.specs.Plays.{Finish, finish_text}
 use Rattle.pec_runs.specs.Plays as plays
-use Rattle.pec_runs.specs.Ran.{Blames, Counts, TellsAs}
+use Rattle.pec_runs.specs.Ran.{Blames, Counts, TellsAs, WritesAt}
 use Rattle.pec_runs.specs.Statuses.{Status}
 use Rattle.pec_runs.specs.Statuses as statuses
 use Rattle.pec_runs.specs.Through.{AreHadFrom}
@@ -92,19 +92,19 @@ same_finish number (Unfits unfit) some = refl
 same_finish number Fails some = refl
 same_finish number Stops some = refl
 
-module _ {D : Type 0} (tells : Type 0) (sight : D → Sight) (range : Range) (status : Status)
+module _ {D : Type 0} (tells : Type 0) (sight : D → Sight) (faults : D → ℕ) (range : Range) (status : Status)
     (unread before after : Option Bytes) (home left : ℕ → Option D) (from upto : ℕ → ℕ) where
   abbrev Ran : Type 0
-  Ran = LogRanSo tells sight range status unread before after home left from upto
+  Ran = LogRanSo tells sight faults range status unread before after home left from upto
 
   abbrev At : Setting → Opening → Had → Type 0
-  At = IsAt text_within header_text tells sight range status before after home left from upto
+  At = IsAt text_within header_text tells sight faults range status before after home left from upto
 
   abbrev Goes : Setting → Opening → Next → Type 0
-  Goes = GoesOn text_within header_text tells sight range status before after home left from upto
+  Goes = GoesOn text_within header_text tells sight faults range status before after home left from upto
 
   abbrev None_ : Setting → Finish → Type 0
-  None_ = ExtractsNone text_within header_text tells sight range status before after home left from upto
+  None_ = ExtractsNone text_within header_text tells sight faults range status before after home left from upto
 
   goes_next : (setting : Setting) (opening : Opening) (next : Next) → (next ≡ NoMore → ⊥)
       → None_ setting (finish_at (next_of opening) next) → Goes setting opening next
@@ -155,7 +155,7 @@ module _ {D : Type 0} (tells : Type 0) (sight : D → Sight) (range : Range) (st
     -- Journals were opened, all or some.
     pub log_opened : (seals : Seals) (opening : Opening)
         → IsSetting (providers_of kept) (record { kept = kept; seals = seals })
-        → HasOpened text_within header_text tells sight range status before after home left from upto
+        → HasOpened text_within header_text tells sight faults range status before after home left from upto
         (record { kept = kept; seals = seals }) opening
         → (tells → status ≡ statuses.Changed
         → (number : ℕ) × IsChangedIn (trade_in (record { kept = kept; seals = seals })) opening.journals number)
@@ -177,18 +177,20 @@ module _ {D : Type 0} (tells : Type 0) (sight : D → Sight) (range : Range) (st
     pub log_unopened : (status ≡ statuses.Changed → ⊥) → (refusal : Shut)
         → ((providers : List Provider) (finish : Finish) → Finishes providers refusal finish
         → TellsAs status before after (finish_text providers finish) finish)
+        → ((providers : List Provider) (holds : Bool) (number : ℕ) (next : Next)
+        → Finishes providers refusal (service.finish_at holds number next) → WritesAt status next)
         → IsUnopened (journals.As forms.Resume) [] kept (disks_at tells sight home) (disks_at tells sight left)
         (λ form trade. AreHadFrom sight tells form trade home left) refusal
         → Ran
-    log_unopened unchanged refusal told (unopened.Halted none untouched_ went) =
+    log_unopened unchanged refusal told lines (unopened.Halted none untouched_ went) =
         log_stopped unchanged untouched_ went
         (told [] plays.Stops (subst (λ (r : Shut). Finishes [] r plays.Stops) (sym none) refl))
-    log_unopened unchanged refusal told (unopened.Unlooked seals chosen failed is_setting untouched_ went) =
+    log_unopened unchanged refusal told lines (unopened.Unlooked seals chosen failed is_setting untouched_ went) =
         absurd (never_chosen chosen)
       where
         never_chosen : journals.As forms.Resume ≡ journals.Chosen → ⊥
         never_chosen e = cc
-    log_unopened unchanged refusal told (unopened.Refused seals at) =
+    log_unopened unchanged refusal told lines (unopened.Refused seals at) =
         let setting : Setting = record { kept = kept; seals = seals }
         in let number = next_of at.opening
         in let finish = finish_at number at.opening.next
@@ -203,6 +205,7 @@ module _ {D : Type 0} (tells : Type 0) (sight : D → Sight) (range : Range) (st
         in log_opened seals at.opening at.is_setting (record {
           is = subst (λ (f : Form). IsOpening (trade_in setting) (disks_at tells sight home) f at.opening) at.is_form
               at.is_opening;
+          writes = lines (providers_of kept) at.holds number at.opening.next at.finishes;
           goes_on = goes_next setting at.opening at.opening.next at.some none;
           disks = subst (λ (f : Form). AreLeft (disks_at tells sight home) (disks_at tells sight left) f at.opening
               (opened_all (trade_in setting) [] at.opening.journals)) at.is_form at.left;

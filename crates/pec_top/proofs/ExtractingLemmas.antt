@@ -283,6 +283,13 @@ module _ {D S : Type 0} (tells reads : Type 0) (sight : D → Sight) (seals : S 
       → later k ≡ count (Now k x).chronicle.disk
   count_now k x within = read.counts.here k x (inside k within)
 
+  -- the counts as journals were opened are those of their disks
+  pub counted_so : (k : ℕ) (disk : D) → disks_of network.providers k ≡ Some disk
+      → counts_in count network.providers mid_last k ≡ count disk
+  counted_so k disk is =
+      let x = disk_at (slice_get network.providers k) disk is
+      in ap (count_or count (mid_last k)) x.1 ∙ ap count x.2
+
   pub failed_so : status ≡ statuses.DiskFault
       → (k : ℕ) × HasRisen (counts_in count network.providers mid_last k) (later k)
   failed_so is =
@@ -340,13 +347,13 @@ module _ {D S : Type 0} (tells reads : Type 0) (sight : D → Sight) (seals : S 
       by_place (inr past) =
           let many = read.many
           in let is = (read.kept told).elsewhere k (omega (arith, many, past))
-          in λ gone. opened.apart told k (let size = whole.count in omega (arith, size, past)) some (sym is ∙ gone)
+          in λ gone. some (sym (opened.apart told k (let size = whole.count in omega (arith, size, past))) ∙ (sym is ∙ gone))
 
   -- All that is said of a run that wrote the text.
   module _ (range : Range) (before after : Option Bytes) (headed : TellsHeader status header_text before after)
       (told : reads → AllStand sight network.providers
       → TellsText status before after (text_within range World (providers_of network.kept) Logs)) where
-    pub text_so : Extracts text_within header_text (tells × reads) sight range status before after home left last later
+    pub text_so : Extracts text_within header_text (tells × reads) sight count range status before after home left last later
         (record { kept = network.kept; seals = seals network.sealer }) Logs
     text_so = record {
       headed = headed;
@@ -355,10 +362,11 @@ module _ {D S : Type 0} (tells reads : Type 0) (sight : D → Sight) (seals : S 
       had = had_so;
       images = images_so;
       counts = counts_in count network.providers mid_last;
+      counted = counted_so;
       sooner = opened.counts;
       failed = failed_so;
     }
 
-    pub opened_so : HasOpened text_within header_text (tells × reads) sight range status before after home left last later
+    pub opened_so : HasOpened text_within header_text (tells × reads) sight count range status before after home left last later
         (record { kept = network.kept; seals = seals network.sealer }) (record { journals = Logs; next = NoMore })
-    opened_so = record { is = opening_so; goes_on = text_so; disks = disks_so }
+    opened_so = record { is = opening_so; writes = λ failed. tt; goes_on = text_so; disks = disks_so }

@@ -154,10 +154,15 @@ module _ {D : Type 0} (tells reads : Type 0) (sight : D → Sight) (kept : List 
         subst (λ (b : Bytes). Says kept Next_ b fault) read.1.2
         ((refused.next read.0.0 read.1.0 read.1.1).says read.0.1)
 
+    -- it is a provider's disk that came to nothing
+    below : Next_ < World.providers
+    below =
+        let many = length-map kept (λ (one : Kept). one.provider) in let few = refused.count in omega (arith, many, few)
+
     next_so : (way : Form) (why : StartFault) → IsAbout (way_of way) Next_ why
         → ((bytes : Bytes) → Old.reads Next_ bytes → Says kept Next_ bytes why)
         → IsNext World Old (form_shown way) Next_ (next_by why)
-    next_so forms.Run (faults.NotEmpty number) about says = (refl, says)
+    next_so forms.Run (faults.NotEmpty number) about says = (refl, says, below)
     next_so forms.Run (faults.DiskFault number) about says = tt
     next_so forms.Run (faults.NotFit number why) about says = absurd about
     next_so forms.Run faults.NoMemory about says = tt
@@ -166,6 +171,8 @@ module _ {D : Type 0} (tells reads : Type 0) (sight : D → Sight) (kept : List 
     next_so forms.Resume (faults.NotFit number why) about says = (
       refl,
       λ bytes read. subst (IsUnfit World Next_ bytes) (same_reason why) ((says bytes read).unfit World of),
+      below,
+      λ bytes read list own is. (says bytes read).none World list of own is,
     )
     next_so forms.Resume faults.NoMemory about says = tt
 

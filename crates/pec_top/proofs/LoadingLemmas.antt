@@ -65,26 +65,26 @@ load_stopped stops.DoorFault count lines trade sites before = sym (followed_by-n
 
 -- a load, by the run that was played for it
 pub loaded_so : {D : Type 0} (count : ℕ) (screens : List (List Patterns)) (run result : Result End Stop) (lines : Bytes)
-    (before after : Option Bytes) (tells : Type 0) (sight : D → Sight) (home left : ℕ → Option D) (old new : Counts)
+    (before after : Option Bytes) (tells : Type 0) (sight : D → Sight) (faults : D → ℕ) (home left : ℕ → Option D) (old new : Counts)
     (source sink : ℕ) (report : Report) (devices : BlamesDevices run 0 source 0 sink)
     (disks : BlamesDisks run old.depot new.depot old.disks new.disks) (depot : old.depot ≤ new.depot)
     (last : (provider : ℕ) → old.disks provider ≤ new.disks provider)
-    (so : RanReporting tells sight (load_asked screens) (result_shown run) (Some (load_input count)) (Some []) (Some lines) home
+    (so : RanReporting tells sight faults (load_asked screens) (result_shown run) (Some (load_input count)) (Some []) (Some lines) home
     left old.disks new.disks reports.Asked report)
     → ((outcome_of (load_asked screens) so.ran.so.happened).finish ≢ Strays)
     → ((trade : Trade) (sites : List Site) → (result_shown run ≡ statuses.Done → IsTold report trade sites)
     → LoadTells (result_shown result) (result_shown run) (written_behind count (result_shown run) lines trade sites) before
     after)
     → Blames (result_shown result) old new → NoneFell old new
-    → LoadRan tells sight count screens (result_shown result) before after home left old new
+    → LoadRan tells sight faults count screens (result_shown result) before after home left old new
 unfolding counted_through whole_through ran_whole
-loaded_so count screens run result lines before after tells sight home left old new source sink report devices disks depot last
+loaded_so count screens run result lines before after tells sight faults home left old new source sink report devices disks depot last
     so on told blame fell = record {
       played = result_shown run;
       lines = lines;
       source = source;
       sink = sink;
-      through = counted_through run (load_asked screens) (Some (load_input count)) (Some []) (Some lines) tells sight home left
+      through = counted_through run (load_asked screens) (Some (load_input count)) (Some []) (Some lines) tells sight faults home left
           (counts_with old 0 0) (counts_with new source sink) devices disks depot last so.ran;
       told = told (world so.ran.so.happened) (outcome_of (load_asked screens) so.ran.so.happened).after
           (λ done. so.reported done on);
@@ -96,17 +96,17 @@ none_fell : (counts : Counts) → NoneFell counts counts
 none_fell counts = record { source = omega arith; sink = omega arith; depot = omega arith; disks = λ provider. omega arith }
 
 -- memory ran out before there was a run to play
-pub unmade : {D : Type 0} (count : ℕ) (screens : List (List Patterns)) (before : Option Bytes) (tells : Type 0) (sight : D → Sight)
-    (home : ℕ → Option D) (counts : Counts) → LoadRan tells sight count screens statuses.NoMemory before before home home counts counts
+pub unmade : {D : Type 0} (count : ℕ) (screens : List (List Patterns)) (before : Option Bytes) (tells : Type 0) (sight : D → Sight) (faults : D → ℕ)
+    (home : ℕ → Option D) (counts : Counts) → LoadRan tells sight faults count screens statuses.NoMemory before before home home counts counts
 unfolding whole_through
-unmade count screens before tells sight home counts = record {
+unmade count screens before tells sight faults home counts = record {
   played = statuses.NoMemory;
   lines = [];
   source = 0;
   sink = 0;
-  through = whole_through (load_asked screens) statuses.NoMemory (Some (load_input count)) (Some []) (Some []) tells sight home
+  through = whole_through (load_asked screens) statuses.NoMemory (Some (load_input count)) (Some []) (Some []) tells sight faults home
       home (counts_with counts 0 0) (counts_with counts 0 0) tt (none_fell (counts_with counts 0 0))
-      (halted_through (load_asked screens) (Some (load_input count)) (Some []) (Some []) tells sight home home counts.disks
+      (halted_through (load_asked screens) (Some (load_input count)) (Some []) (Some []) tells sight faults home home counts.disks
       counts.disks (untouched tells sight home) (λ trade. had_none tells sight Resume trade home) Run statuses.NoMemory refl
       (refl, refl));
   told = sym (followed_by-nil before);

@@ -31,11 +31,11 @@ none_left : (unread : Option Bytes) → IsAtEnd unread → AreLinesLeft unread [
 none_left None over = tt
 none_left (Some text) over = sym (ap raw_lines over)
 
-module _ {D : Type 0} {tells : Type 0} {sight : D → Sight} {trade : Trade} {providers : List Provider}
-    {first here : LinePoint D} (came : Reads trade providers tells sight first here)
-    (laws : LoopLaws D tells sight trade providers) where
+module _ {D : Type 0} {tells : Type 0} {sight : D → Sight} {faults : D → ℕ} {trade : Trade} {providers : List Provider}
+    {first here : LinePoint D} (came : Reads trade providers tells sight faults first here)
+    (laws : LoopLaws D tells sight faults trade providers) where
   abbrev ReadTo : Point D → Status → Type 0
-  ReadTo there status = IsRead trade providers tells sight first there status
+  ReadTo there status = IsRead trade providers tells sight faults first there status
 
   -- memory ran out, or the input failed
   pub lacks_here : ReadTo here.point statuses.NoMemory
@@ -52,7 +52,7 @@ module _ {D : Type 0} {tells : Type 0} {sight : D → Sight} {trade : Trade} {pr
     -- what is found is a line where the script goes on
     pub passes : (spare : Option Patterns) (what : Found) → WasFound what
         → IsSaid providers here.number spare what line said.Nothing
-        → Reads trade providers tells sight first (behind_line here here.point behind)
+        → Reads trade providers tells sight faults first (behind_line here here.point behind)
     passes spare found.End told says = absurd says
     passes spare found.Line told says =
         laws.on first here here.point spare line PassedOver behind says tt (line_read here.unread line behind told.2)
@@ -63,8 +63,8 @@ module _ {D : Type 0} {tells : Type 0} {sight : D → Sight} {trade : Trade} {pr
 
     pub plays : (spare : Option Patterns) (what : Found) → WasFound what → (command : Command)
         → IsSaid providers here.number spare what line (said.Command command) → (there : Point D)
-        → Goes trade providers tells sight (Plays (command_in spare command) ∷ []) here.point there None
-        → Reads trade providers tells sight first (behind_line here there behind)
+        → Goes trade providers tells sight faults (Plays (command_in spare command) ∷ []) here.point there None
+        → Reads trade providers tells sight faults first (behind_line here there behind)
     plays spare found.End told command says there goes = absurd says
     plays spare found.Line told command says there goes =
         laws.on first here there spare line (Says (command_in spare command)) behind says tt
@@ -75,14 +75,14 @@ module _ {D : Type 0} {tells : Type 0} {sight : D → Sight} {trade : Trade} {pr
 
     pub stops : (spare : Option Patterns) (what : Found) → WasFound what → (command : Command)
         → IsSaid providers here.number spare what line (said.Command command) → (there : Point D) (stop : PlayStop)
-        → Goes trade providers tells sight (Plays (command_in spare command) ∷ []) here.point there
+        → Goes trade providers tells sight faults (Plays (command_in spare command) ∷ []) here.point there
         (stop_in {T = Unit {0}} (Err stop))
         → ReadTo there (stop_shown (played_stop stop))
     stops spare what told command says there stop goes = by_stop stop goes
       where
         stops_so : (why : Stop) → (what : Found) → WasFound what
             → IsSaid providers here.number spare what line (said.Command command)
-            → Goes trade providers tells sight (Plays (command_in spare command) ∷ []) here.point there (Some why)
+            → Goes trade providers tells sight faults (Plays (command_in spare command) ∷ []) here.point there (Some why)
             → ReadTo there (stopped_status why)
         stops_so why found.End told says goes = absurd says
         stops_so why found.Line told says goes =
@@ -93,7 +93,7 @@ module _ {D : Type 0} {tells : Type 0} {sight : D → Sight} {trade : Trade} {pr
             in absurd (says long.line long.lines long.long)
 
         by_stop : (stop : PlayStop)
-            → Goes trade providers tells sight (Plays (command_in spare command) ∷ []) here.point there
+            → Goes trade providers tells sight faults (Plays (command_in spare command) ∷ []) here.point there
             (stop_in {T = Unit {0}} (Err stop))
             → ReadTo there (stop_shown (played_stop stop))
         by_stop play_stops.NoMemory goes = stops_so NoMemory what told says goes

@@ -60,13 +60,14 @@ pub opened_so : {D S : Type 0} (tells reads : Type 0) (sight : D → Sight) (sea
     (screens : List (List Patterns)) (how : Journals) (form : Form) (home looked left : ℕ → Option D) (last mid later : ℕ → ℕ) (network : NetworkState D S)
     → Known tells reads sight seals how form home looked network.providers network.kept network.sealer
     → (tells → AreAsTheyWere reads sight home looked)
+    → (tells → (k : ℕ) → length network.kept ≤ k → looked k ≡ home k)
     → (reads → (disk : D) → (sight disk).may_leave (sight disk).seen) → CountsNow reads sight
     → sites network ≡ all_rested screens (journals_had network.providers)
     → (tells → AllAt (λ (p : ProviderState D). None) looked left network.providers)
     → NoneFell count mid network.providers → Alike mid later → ((k : ℕ) → last k ≤ mid k)
     → IsOpened tells reads sight seals count screens how home left last later network
-opened_so {D} {S} tells reads sight seals count screens how form home looked left last mid later network known rest reads_so counts_now rests
-    out
+opened_so {D} {S} tells reads sight seals count screens how form home looked left last mid later network known rest looked_past reads_so counts_now
+    rests out
     fell alike sooner =
     let kept = network.kept
     in let world = world_of seals network
@@ -99,9 +100,8 @@ opened_so {D} {S} tells reads sight seals count screens how form home looked lef
           (left_whole (tells × reads) sight (λ told. reads_so told.1) (form_shown form) journals (length kept) size state after
           same looked left new
           (λ told k past. (out told.0).elsewhere k (let c = known.count in omega (arith, c, past))) again);
-      apart = λ told k past some gone.
-          home_rest tells reads sight home looked rest told k some
-          (sym ((out told).elsewhere k (let c = known.count in omega (arith, c, past))) ∙ gone);
+      apart = λ told k past.
+          (out told).elsewhere k (let c = known.count in omega (arith, c, past)) ∙ looked_past told k past;
     }
 
 -- ---- not all are had

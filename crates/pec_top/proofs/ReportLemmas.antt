@@ -18,7 +18,7 @@ use Rattle.pec_runs.specs.Reading.{IsRead}
 use Rattle.pec_runs.specs.ScriptLines.{Script, script_of}
 use Rattle.pec_runs.specs.Statuses.{Status}
 use Rattle.pec_runs.specs.Moments.{AllStandIn}
-use Rattle.pec_runs.specs.Steps.{AreSeen, Point, lucks_in}
+use Rattle.pec_runs.specs.Steps.{AreCounted, AreSeen, Point, lucks_in}
 use Rattle.pec_runs.specs.Through.{AreHadFrom, disks_in}
 use Rattle.pec_serving.specs.OfNetworks.{ChronicleState}
 use Rattle.pec_top.specs.Reporting.{RanReporting, Reports}
@@ -40,9 +40,9 @@ unlooked reports.Untold trade sites = tt
 -- what was asked stands as it was
 pub unreported : {D : Type 0} (tells : Type 0) (sight : D → Sight) (asked : Asked) (status : Status)
     (unread before after : Option Bytes) (home left : ℕ → Option D) (from upto : ℕ → ℕ) (report : Report)
-    → RanSoOver tells sight asked status unread before after home left from upto
-    → RanReporting tells sight asked status unread before after home left from upto report report
-unreported tells sight asked status unread before after home left from upto report ran = record {
+    → RanSoOver tells sight faults asked status unread before after home left from upto
+    → RanReporting tells sight faults asked status unread before after home left from upto report report
+unreported tells sight faults asked status unread before after home left from upto report ran = record {
   ran = ran;
   reported = λ done on. unlooked report (world ran.so.happened) (outcome_of asked ran.so.happened).after;
 }
@@ -60,28 +60,29 @@ left_off trade after left (Within command luck some journals interrupted) = absu
 pub script_told : {D : Type 0} (asked : Asked) (form : Form) (is : form_in asked.words ≡ Some form) (bytes : Bytes)
     (short : length bytes ≤ LONGEST_DIRECTORY) (setting : Setting)
     (reads : directory_in bytes ≡ Ok (providers_in setting)) (is_setting : IsSetting (providers_in setting) setting)
-    (tells : Type 0) (sight : D → Sight) (home left : ℕ → Option D) (from upto : ℕ → ℕ) (journals : List (List Entry))
+    (tells : Type 0) (sight : D → Sight) (faults : D → ℕ) (home left : ℕ → Option D) (from upto : ℕ → ℕ) (journals : List (List Entry))
     (status : Status) (unread behind : Option Bytes) (point there : Point D)
     (begins : point.state.sites ≡ opened_all (trade_in setting) asked.screens journals)
     (spares : point.state.spares ≡ asked.spares)
     (since : (k : ℕ) → from k ≤ point.state.counts k) (later : (k : ℕ) → there.state.counts k ≤ upto k)
     (input : parts_left unread ≡ parts_behind bytes behind)
     (opens : IsOpening (trade_in setting) (disks_at tells sight home) form (record { journals = journals; next = NoMore }))
-    (read : IsRead (trade_in setting) (providers_in setting) tells sight (at_first point behind) there status)
+    (read : IsRead (trade_in setting) (providers_in setting) tells sight faults (at_first point behind) there status)
     (leaves : (stands : List Site) → (tells → stands ≡ there.state.sites)
     → AreLeft (disks_at tells sight home) (disks_at tells sight left) form
     (record { journals = journals; next = NoMore }) stands)
-    (seen : AreSeen point.state) (stand : tells → AllStandIn sight point.state)
+    (seen : AreSeen point.state) (counted : AreCounted faults point.state) (stand : tells → AllStandIn sight point.state)
     (had : AreHadFrom sight tells form (trade_in setting) home (disks_in point.state))
     (kept : tells → (provider : ℕ) → provider < (trade_in setting).providers
     → (one : ChronicleState D) × (there.state.chronicles provider ≡ Some one) × (left provider ≡ Some one.disk))
+    (elsewhere : tells → (provider : ℕ) → (trade_in setting).providers ≤ provider → left provider ≡ home provider)
     (report told : Report) → Reports report told (trade_in setting) there.state.sites
-    → RanReporting tells sight asked status unread point.held there.held home left from upto report told
+    → RanReporting tells sight faults asked status unread point.held there.held home left from upto report told
 unfolding script_through ran_script ran_begun
-script_told asked form is bytes short setting reads is_setting tells sight home left from upto journals status unread behind
-    point there begins spares since later input opens read leaves seen stand had kept report told says = record {
-      ran = script_through asked form is bytes short setting reads is_setting tells sight home left from upto journals status
-          unread behind point there begins spares since later input opens read leaves seen stand had kept;
+script_told asked form is bytes short setting reads is_setting tells sight faults home left from upto journals status unread behind
+    point there begins spares since later input opens read leaves seen counted stand had kept elsewhere report told says = record {
+      ran = script_through asked form is bytes short setting reads is_setting tells sight faults home left from upto journals status
+          unread behind point there begins spares since later input opens read leaves seen counted stand had kept elsewhere;
       reported = λ done on.
           let trade = trade_in setting
           in let played = read.played

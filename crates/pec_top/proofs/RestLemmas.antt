@@ -124,8 +124,13 @@ module _ (trade : Trade) (old mid : Disks) (on : (k : ℕ) (bytes : Bytes) → o
 
   next_since : (form : Form) (k : ℕ) (next : Next) → IsNext trade mid form k next → IsNext trade old form k next
   next_since form k NoMore is = is
-  next_since form k Holds is = (is.0, λ bytes read. is.1 bytes (on k bytes read))
-  next_since form k (Unfits unfit) is = (is.0, λ bytes read. is.1 bytes (on k bytes read))
+  next_since form k Holds is = (is.0, λ bytes read. is.1 bytes (on k bytes read), is.2)
+  next_since form k (Unfits unfit) is = (
+    is.0,
+    λ bytes read. is.1 bytes (on k bytes read),
+    is.2,
+    λ bytes read list own journal. is.3 bytes (on k bytes read) list own journal,
+  )
   next_since form k Fails is = tt
   next_since form k Stops is = tt
 

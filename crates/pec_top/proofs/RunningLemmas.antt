@@ -24,7 +24,7 @@ use Rattle.pec_runs.specs.Openings.{Stops, Opening, disks_at, form_in}
 use Rattle.pec_serving.specs.OfNetworks.{Luck}
 use Rattle.pec_runs.specs.Plays.{Outcome, Rest, Stopped}
 use Rattle.pec_runs.specs.Plays as plays
-use Rattle.pec_runs.specs.Ran.{Blames, Counts, IsAt, IsInput, LeavesOff, NoneFell, PlaysOn, Ran, Tells, TellsAs}
+use Rattle.pec_runs.specs.Ran.{Blames, Counts, IsAt, IsInput, LeavesOff, NoneFell, PlaysOn, Ran, Tells, TellsAs, WritesAt}
 use Rattle.pec_runs.specs.Ran.{command_in_hand}
 use Rattle.pec_runs.specs.ScriptLines.{Hands, Script, script_of}
 use Rattle.pec_runs.specs.Statuses.{Status}
@@ -223,13 +223,13 @@ module _ (asked : Asked) (form : Form) (is : form_in asked.words ≡ Some form) 
   unfoldable pub ran_begun : (status : Status) (unread behind before after : Option Bytes) (tells : Type 0) (old new : Disks)
       (from upto : ℕ → ℕ)
       (left : List Site) → parts_left unread ≡ parts_behind bytes behind → AreLinesLeft behind lines
-      → IsOpening (trade_in setting) old form opening
+      → IsOpening (trade_in setting) old form opening → WritesAt status opening.next
       → PlaysOn tells old new (disk_counts from) (disk_counts upto) happened_so script_had opening.next
       → LeavesOff (trade_in setting) outcome_had.after (command_in_hand status opening.next rest lucks script_had)
       left
       → AreLeft old new form opening left → Tells (providers_in setting) status before after outcome_had
       → RanSo asked status unread before after tells old new from upto
-  ran_begun status unread behind before after tells old new from upto left input lines_left opens plays leaves disks
+  ran_begun status unread behind before after tells old new from upto left input lines_left opens writes plays leaves disks
       told = record {
         happened = happened_so;
         given = record { screens = refl; spares = refl };
@@ -242,6 +242,7 @@ module _ (asked : Asked) (form : Form) (is : form_in asked.words ≡ Some form) 
             asked
             s) (sym begun_so) (record {
               opening = opens;
+              writes = writes;
               plays = plays;
               left = left;
               leaves_off = subst
@@ -276,6 +277,7 @@ ran_whole asked status unread before after tells old_disks new_disks old new bla
     at_stage Halted is = is
     at_stage (Begun form script) is = record {
       opening = is.opening;
+      writes = is.writes;
       plays = plays_on so.happened.opening.next is.plays;
       left = is.left;
       leaves_off = is.leaves_off;

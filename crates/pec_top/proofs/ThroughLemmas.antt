@@ -14,7 +14,8 @@ use Rattle.pec_ledger.specs.Trade.{Trade}
 use Rattle.pec_records.specs.declared.entries.Entry.{Entry}
 use Rattle.pec_serving.specs.OfNetworks.{Luck}
 use Rattle.pec_seal.specs.Seals.{Seals}
-use Rattle.pec_serving.specs.OfNetworks.{AllAt, AllStand, ChronicleState, IsOfDirectory, NetworkState, ProviderState}
+use Rattle.pec_serving.specs.OfNetworks.{AllAt, AllStand, ChronicleState, IsOfDirectory, NetworkState, ProviderState, count_or, state_in}
+use Rattle.pec_screen.specs.Verdicts.{Patterns}
 use Rattle.pec_serving.specs.OfNetworks.{Stands, sites}
 use Rattle.pec_runs.specs.Endings.{End, end_text}
 use Rattle.pec_runs.specs.Happened.{Asked, Begun, Halted, Happened, IsSetting, Over, Setting, by_form, by_next}
@@ -23,11 +24,11 @@ use Rattle.pec_runs.specs.Openings.{AreLeft, AreUntouched, Form, IsOpening, NoMo
 use Rattle.pec_runs.specs.Openings.{form_in, opened_all}
 use Rattle.pec_runs.specs.Plays.{Rest}
 use Rattle.pec_runs.specs.Plays as plays
-use Rattle.pec_runs.specs.Ran.{Blames, Counts, IsInput, LeavesOff, NoneFell, PlaysOn, Tells, TellsAs, command_in_hand, world}
+use Rattle.pec_runs.specs.Ran.{Blames, Counts, IsInput, LeavesOff, NoneFell, PlaysOn, Tells, TellsAs, WritesAt, command_in_hand, world}
 use Rattle.pec_runs.specs.Reading.{AreLinesLeft, IsRead}
 use Rattle.pec_runs.specs.ScriptLines.{Hands, Script, script_of}
 use Rattle.pec_runs.specs.Statuses.{Status}
-use Rattle.pec_runs.specs.Steps.{AreSeen, Point}
+use Rattle.pec_runs.specs.Steps.{AreCounted, AreSeen, Point}
 use Rattle.pec_runs.specs.Moments.{AllStandIn}
 use Rattle.pec_runs.specs.Through.{AreHadFrom, DisksWent, PlaysThrough, RanThrough, disks_in}
 use Rattle.pec_top.specs.Blaming.{BlamesDevices, BlamesDisks}
@@ -52,11 +53,11 @@ one_form a b x y e = cc
 one_script : (a b : Form) (x y : Script) → Begun a x ≡ Begun b y → x ≡ y
 one_script a b x y e = cc
 
-module _ {D : Type 0} (tells : Type 0) (sight : D → Sight) (home left : ℕ → Option D) (from upto : ℕ → ℕ)
-    (asked : Asked) (happened : Happened) where
+module _ {D : Type 0} (tells : Type 0) (sight : D → Sight) (faults : D → ℕ) (home left : ℕ → Option D) (from upto : ℕ → ℕ)
+    (before after : Option Bytes) (asked : Asked) (happened : Happened) where
   -- It doesn't begin, and nothing is written on a disk.
   pub went_unasked : ((form : Form) (script : Script) → stage_of asked happened.hands happened.early happened.parts ≡ Begun form script → ⊥)
-      → AreHadFrom sight tells Resume (world happened) home left → DisksWent tells sight home left from upto asked happened
+      → AreHadFrom sight tells Resume (world happened) home left → DisksWent tells sight faults home left from upto before after asked happened
   went_unasked none had = record {
     unasked = λ same. had;
     stopped = λ form script begun some. absurd (none form script begun);
@@ -66,7 +67,7 @@ module _ {D : Type 0} (tells : Type 0) (sight : D → Sight) (home left : ℕ �
   module _ (form : Form) (script : Script) (begun : stage_of asked happened.hands happened.early happened.parts ≡ Begun form script) where
     -- Not all journals are had.
     pub went_stopped : (happened.opening.next ≡ NoMore → ⊥) → AreHadFrom sight tells form (world happened) home left
-        → DisksWent tells sight home left from upto asked happened
+        → DisksWent tells sight faults home left from upto before after asked happened
     went_stopped some had = record {
       unasked = λ none. absurd (none form script begun);
       stopped = λ way written is more.
@@ -76,21 +77,21 @@ module _ {D : Type 0} (tells : Type 0) (sight : D → Sight) (home left : ℕ �
     }
 
     -- All are had, and the script is played.
-    pub went_played : happened.opening.next ≡ NoMore → PlaysThrough tells sight home left from upto happened form script
-        → DisksWent tells sight home left from upto asked happened
+    pub went_played : happened.opening.next ≡ NoMore → PlaysThrough tells sight faults home left from upto before after happened form script
+        → DisksWent tells sight faults home left from upto before after asked happened
     went_played all plays = record {
       unasked = λ none. absurd (none form script begun);
       stopped = λ way written is some. absurd (some all);
       played = λ way written is more.
-          subst (λ (s : Script). PlaysThrough tells sight home left from upto happened way s)
+          subst (λ (s : Script). PlaysThrough tells sight faults home left from upto before after happened way s)
           (one_script form way script written (sym begun ∙ is))
-          (subst (λ (f : Form). PlaysThrough tells sight home left from upto happened f script)
+          (subst (λ (f : Form). PlaysThrough tells sight faults home left from upto before after happened f script)
           (one_form form way script written (sym begun ∙ is)) plays);
     }
 
 -- ---- runs without a script
 
-module _ {D : Type 0} (asked : Asked) (unread before after : Option Bytes) (tells : Type 0) (sight : D → Sight)
+module _ {D : Type 0} (asked : Asked) (unread before after : Option Bytes) (tells : Type 0) (sight : D → Sight) (faults : D → ℕ)
     (home left : ℕ → Option D) (from upto : ℕ → ℕ)
     (untouched_ : AreUntouched (disks_at tells sight home) (disks_at tells sight left))
     (had : (trade : Trade) → AreHadFrom sight tells Resume trade home left) where
@@ -98,28 +99,28 @@ module _ {D : Type 0} (asked : Asked) (unread before after : Option Bytes) (tell
   pub over_through : (parts : Parts) (early : Bool) (end : End) (status : Status)
       → stage_of asked no_hands early parts ≡ Over end → IsInput unread parts
       → TellsAs status before after (end_text [] end) (plays.Ends end)
-      → RanSoOver tells sight asked status unread before after home left from upto
+      → RanSoOver tells sight faults asked status unread before after home left from upto
   unfolding ran_over
   over_through parts early end status stage input told =
       let so = ran_over asked unread before after tells (disks_at tells sight home) (disks_at tells sight left) from upto
       untouched_ parts early end status stage input told in
       record {
         so = so;
-        through = went_unasked tells sight home left from upto asked so.happened
+        through = went_unasked tells sight faults home left from upto before after asked so.happened
             (λ form script begun. over_not end form script (sym stage ∙ begun)) (had (world so.happened));
       }
 
   -- It was halted before a disk was asked for, and nothing was written.
   pub halted_through : (form : Form) (status : Status) → form_in asked.words ≡ Some form
       → TellsAs status before after [] plays.Stops
-      → RanSoOver tells sight asked status unread before after home left from upto
+      → RanSoOver tells sight faults asked status unread before after home left from upto
   unfolding ran_halted stage_of
   halted_through form status is told =
       let so = ran_halted asked unread before after tells (disks_at tells sight home) (disks_at tells sight left) from upto
       untouched_ form status is told in
       record {
         so = so;
-        through = went_unasked tells sight home left from upto asked so.happened
+        through = went_unasked tells sight faults home left from upto before after asked so.happened
             (λ way script begun. halted_not way script
             (sym (ap (by_form no_hands true (parts_there unread).0) is) ∙ begun))
             (had (world so.happened));
@@ -130,7 +131,7 @@ module _ {D : Type 0} (asked : Asked) (unread before after : Option Bytes) (tell
 module _ (asked : Asked) (form : Form) (is : form_in asked.words ≡ Some form) (bytes : Bytes)
     (short : length bytes ≤ LONGEST_DIRECTORY) (setting : Setting)
     (reads : directory_in bytes ≡ Ok (providers_in setting)) (is_setting : IsSetting (providers_in setting) setting)
-    {D : Type 0} (tells : Type 0) (sight : D → Sight) (home left : ℕ → Option D) (from upto : ℕ → ℕ) where
+    {D : Type 0} (tells : Type 0) (sight : D → Sight) (faults : D → ℕ) (home left : ℕ → Option D) (from upto : ℕ → ℕ) where
   abbrev script_had : Hands → List Bytes → Script
   script_had hands lines = script_of hands (providers_in setting) 1 lines
 
@@ -144,6 +145,7 @@ module _ (asked : Asked) (form : Form) (is : form_in asked.words ≡ Some form) 
   pub stopped_through : (hands : Hands) (lines : List Bytes) (opening : Opening) (lucks : List Luck) (rest : Rest)
       (status : Status) (unread behind before after : Option Bytes) (stands : List Site) → parts_left unread ≡ parts_behind bytes behind
       → AreLinesLeft behind lines → IsOpening (trade_in setting) (disks_at tells sight home) form opening
+      → WritesAt status opening.next
       → PlaysOn tells (disks_at tells sight home) (disks_at tells sight left) (disk_counts from) (disk_counts upto)
       (record {
         parts = record { directory = bytes; script = Some lines };
@@ -163,16 +165,16 @@ module _ (asked : Asked) (form : Form) (is : form_in asked.words ≡ Some form) 
       → Tells (providers_in setting) status before after
       (by_next (trade_in setting) asked.screens opening lucks rest (script_had hands lines) opening.next)
       → (opening.next ≡ NoMore → ⊥) → AreHadFrom sight tells form (trade_in setting) home left
-      → RanSoOver tells sight asked status unread before after home left from upto
+      → RanSoOver tells sight faults asked status unread before after home left from upto
   unfolding ran_begun
-  stopped_through hands lines opening lucks rest status unread behind before after stands input lines_left opens plays_on leaves
-      disks told some had =
+  stopped_through hands lines opening lucks rest status unread behind before after stands input lines_left opens writes plays_on
+      leaves disks told some had =
       let so = ran_begun asked form is bytes short setting reads is_setting hands lines opening lucks rest status unread behind
-      before after tells (disks_at tells sight home) (disks_at tells sight left) from upto stands input lines_left opens
+      before after tells (disks_at tells sight home) (disks_at tells sight left) from upto stands input lines_left opens writes
       plays_on leaves disks told in
       record {
         so = so;
-        through = went_stopped tells sight home left from upto asked so.happened form (script_had hands lines) (begun_had hands lines)
+        through = went_stopped tells sight faults home left from upto before after asked so.happened form (script_had hands lines) (begun_had hands lines)
             some had;
       }
 
@@ -183,24 +185,25 @@ module _ (asked : Asked) (form : Form) (is : form_in asked.words ≡ Some form) 
       → ((k : ℕ) → from k ≤ point.state.counts k) → ((k : ℕ) → there.state.counts k ≤ upto k)
       → parts_left unread ≡ parts_behind bytes behind
       → IsOpening (trade_in setting) (disks_at tells sight home) form (record { journals = journals; next = NoMore })
-      → IsRead (trade_in setting) (providers_in setting) tells sight (at_first point behind) there status
+      → IsRead (trade_in setting) (providers_in setting) tells sight faults (at_first point behind) there status
       → ((stands : List Site) → (tells → stands ≡ there.state.sites)
       → AreLeft (disks_at tells sight home) (disks_at tells sight left) form
       (record { journals = journals; next = NoMore }) stands)
-      → AreSeen point.state → (tells → AllStandIn sight point.state)
+      → AreSeen point.state → AreCounted faults point.state → (tells → AllStandIn sight point.state)
       → AreHadFrom sight tells form (trade_in setting) home (disks_in point.state)
       → (tells → (provider : ℕ) → provider < (trade_in setting).providers
       → (one : ChronicleState D) × (there.state.chronicles provider ≡ Some one) × (left provider ≡ Some one.disk))
-      → RanSoOver tells sight asked status unread point.held there.held home left from upto
+      → (tells → (provider : ℕ) → (trade_in setting).providers ≤ provider → left provider ≡ home provider)
+      → RanSoOver tells sight faults asked status unread point.held there.held home left from upto
   unfolding ran_script ran_begun
-  script_through journals status unread behind point there begins spares since later input opens read leaves seen stand had kept =
-      let so = ran_script asked form is bytes short setting reads is_setting journals status unread behind tells sight
+  script_through journals status unread behind point there begins spares since later input opens read leaves seen counted stand had kept elsewhere =
+      let so = ran_script asked form is bytes short setting reads is_setting journals status unread behind tells sight faults
       (disks_at tells sight home) (disks_at tells sight left) from upto point there begins spares since later input opens read
       leaves in
       let played = read.played in
       record {
         so = so;
-        through = went_played tells sight home left from upto asked so.happened form (script_had read.hands read.lines)
+        through = went_played tells sight faults home left from upto point.held there.held asked so.happened form (script_had read.hands read.lines)
             (begun_had read.hands read.lines) refl
             (record {
               goes = record {
@@ -212,25 +215,29 @@ module _ (asked : Asked) (form : Form) (is : form_in asked.words ≡ Some form) 
                 stand = stand;
                 had = had;
                 sooner = since;
+                begun = counted;
+                counted = played.counted counted;
                 each = played.each;
                 moments = played.moments;
                 later = λ k. let a = played.since k in let b = later k in omega (arith, a, b);
                 kept = kept;
+                elsewhere = elsewhere;
               };
               lucks = refl;
               unplayed = played.unplayed;
               acts = played.acts_are;
+              written = played.written;
             });
       }
 
 -- ---- the whole run
 
 unfoldable pub whole_through : {D : Type 0} (asked : Asked) (status : Status) (unread before after : Option Bytes) (tells : Type 0)
-    (sight : D → Sight) (home left : ℕ → Option D) (old new : Counts) → Blames status old new → NoneFell old new
-    → RanSoOver tells sight asked status unread before after home left old.disks new.disks
-    → RanThrough tells sight asked status unread before after home left old new
+    (sight : D → Sight) (faults : D → ℕ) (home left : ℕ → Option D) (old new : Counts) → Blames status old new → NoneFell old new
+    → RanSoOver tells sight faults asked status unread before after home left old.disks new.disks
+    → RanThrough tells sight faults asked status unread before after home left old new
 unfolding ran_whole
-whole_through asked status unread before after tells sight home left old new blames fell ran = record {
+whole_through asked status unread before after tells sight faults home left old new blames fell ran = record {
   ran = ran_whole asked status unread before after tells (disks_at tells sight home) (disks_at tells sight left) old new
       blames fell ran.so;
   through = ran.through;
@@ -238,14 +245,14 @@ whole_through asked status unread before after tells sight home left old new bla
 
 -- the same of a result
 unfoldable pub counted_through : {D : Type 0} (result : Result Last Stop) (asked : Asked) (unread before after : Option Bytes)
-    (tells : Type 0) (sight : D → Sight) (home left : ℕ → Option D) (old new : Counts)
+    (tells : Type 0) (sight : D → Sight) (faults : D → ℕ) (home left : ℕ → Option D) (old new : Counts)
     → BlamesDevices result old.source new.source old.sink new.sink
     → BlamesDisks result old.depot new.depot old.disks new.disks → old.depot ≤ new.depot
     → ((provider : ℕ) → old.disks provider ≤ new.disks provider)
-    → RanSoOver tells sight asked (result_shown result) unread before after home left old.disks new.disks
-    → RanThrough tells sight asked (result_shown result) unread before after home left old new
-counted_through result asked unread before after tells sight home left old new devices disks depot last ran =
-    whole_through asked (result_shown result) unread before after tells sight home left old new
+    → RanSoOver tells sight faults asked (result_shown result) unread before after home left old.disks new.disks
+    → RanThrough tells sight faults asked (result_shown result) unread before after home left old new
+counted_through result asked unread before after tells sight faults home left old new devices disks depot last ran =
+    whole_through asked (result_shown result) unread before after tells sight faults home left old new
     (blames_result result old new devices disks)
     (record { source = devices.1.1.0; sink = devices.1.1.1; depot = depot; disks = last }) ran
 
@@ -286,6 +293,14 @@ module _ {D S : Type 0} {seals : Seals} (home_tells reads : Type 0) (sight : D �
       (subst (λ (p : ProviderState D). Stands sight p.chronicle)
       (get_or_from_slice_get network.providers k x.0 x.0 x.1)
       (stands k x.0 (slice_get_within network.providers k x.0 x.1)))
+
+  -- and its counts of faults are those of their disks
+  pub all_counted : (count : D → ℕ) (elsewhere : ℕ → ℕ) (spares : List Patterns)
+      → AreCounted count (state_in count elsewhere spares network)
+  all_counted count elsewhere spares k one e =
+      let x = one_at (slice_get network.providers k) one e in
+      ap (λ (o : Option (ProviderState D)). count_or count (elsewhere k) o) x.1
+      ∙ ap (λ (c : ChronicleState D). count c.disk) x.2
 
   -- the disks of its providers are put back
   pub all_kept : (mid new : ℕ → Option D)

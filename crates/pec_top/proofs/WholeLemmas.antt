@@ -165,18 +165,17 @@ unfoldable pub ran_script : {D : Type 0} (asked : Asked) (form : Form) → form_
     → length bytes ≤ LONGEST_DIRECTORY
     → (setting : Setting) → directory_in bytes ≡ Ok (providers_in setting)
     → IsSetting (providers_in setting) setting
-    → (journals : List (List Entry)) (status : Status) (unread behind : Option Bytes) (tells : Type 0) (sight : D
-    → Sight)
-    (old new : Disks) (from upto : ℕ → ℕ) (point there : Point D)
+    → (journals : List (List Entry)) (status : Status) (unread behind : Option Bytes) (tells : Type 0)
+    (sight : D → Sight) (faults : D → ℕ) (old new : Disks) (from upto : ℕ → ℕ) (point there : Point D)
     → point.state.sites ≡ opened_all (trade_in setting) asked.screens journals → point.state.spares ≡ asked.spares
     → ((k : ℕ) → from k ≤ point.state.counts k)
     → ((k : ℕ) → there.state.counts k ≤ upto k) → parts_left unread ≡ parts_behind bytes behind
     → IsOpening (trade_in setting) old form (record { journals = journals; next = NoMore })
-    → IsRead (trade_in setting) (providers_in setting) tells sight (at_first point behind) there status
+    → IsRead (trade_in setting) (providers_in setting) tells sight faults (at_first point behind) there status
     → ((left : List Site) → (tells → left ≡ there.state.sites)
     → AreLeft old new form (record { journals = journals; next = NoMore }) left)
     → RanSo asked status unread point.held there.held tells old new from upto
-ran_script asked form is bytes short setting reads is_setting journals status unread behind tells sight old new from
+ran_script asked form is bytes short setting reads is_setting journals status unread behind tells sight faults old new from
     upto point
     there begins spares since later input opens read leaves =
     let trade = trade_in setting
@@ -186,7 +185,7 @@ ran_script asked form is bytes short setting reads is_setting journals status un
     in let script = script_of read.hands providers 1 read.lines
     in ran_begun asked form is bytes short setting reads is_setting read.hands read.lines
     (record { journals = journals; next = NoMore }) lucks played.rest status unread behind point.held there.held tells
-    old new from upto played.left input read.left opens
+    old new from upto played.left input read.left opens (λ failed. tt)
     (subst (λ (s : List Site). MayPlay trade tells asked.spares s from upto script lucks played.rest) begins
     (subst (λ (p : List Patterns). MayPlay trade tells p point.state.sites from upto script lucks played.rest) spares
     (may_between tells trade point.state.spares point.state.sites from point.state.counts there.state.counts upto script

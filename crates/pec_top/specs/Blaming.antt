@@ -29,6 +29,13 @@ abbrev pub DisksGo : {T : Type 0} → Result T Stop → ℕ → ℕ → (ℕ →
 DisksGo result depot_old depot_new last left =
     BlamesDisks result depot_old depot_new last left × (depot_old ≤ depot_new) × ((provider : ℕ) → last provider ≤ left provider)
 
+-- There is a last line to be written.
+abbrev pub HasLine : Refusal → Type 0
+HasLine (refusals.NotEmpty text) = Unit {0}
+HasLine (refusals.NotFit text) = Unit {0}
+HasLine refusals.StartFault = ⊥
+HasLine refusals.NoMemory = ⊥
+
 -- What stops a run that was refused: the output, whose count rose; or the refusal.
 abbrev pub BlamesRefusal : Refusal → ℕ → ℕ → Stop → Type 0
 BlamesRefusal refusal sink_old sink_new stops.WriteFault = HasRisen sink_old sink_new

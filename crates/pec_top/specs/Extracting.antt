@@ -40,16 +40,16 @@ pub record WereRead {D : Type 0} (tells reads : Type 0) (sight : D → Sight) (f
 
 -- It ran so, but for the counts of faults of its devices. Over disks that tell what they hold an entry is told as changed
 -- only where one of the journals that were opened holds, by which a message was taken, no envelope of that message.
-pub record LogRanSo {D : Type 0} (tells : Type 0) (sight : D → Sight) (range : Range) (status : Status)
+pub record LogRanSo {D : Type 0} (tells : Type 0) (sight : D → Sight) (faults : D → ℕ) (range : Range) (status : Status)
     (unread before after : Option Bytes) (home left : ℕ → Option D) (from upto : ℕ → ℕ) : Type 0 where
-  pub so : Extracted text_within header_text tells sight range status before after home left from upto unread
+  pub so : Extracted text_within header_text tells sight faults range status before after home left from upto unread
   pub changed : tells → status ≡ statuses.Changed
       → (number : ℕ) × IsChangedIn (trade_in so.setting) so.opening.journals number
 
 -- The program wrote an extract of logs so; and its status blames a device only where that one's count of faults rose.
-pub record LogRan {D : Type 0} (tells : Type 0) (sight : D → Sight) (range : Range) (status : Status)
+pub record LogRan {D : Type 0} (tells : Type 0) (sight : D → Sight) (faults : D → ℕ) (range : Range) (status : Status)
     (unread before after : Option Bytes) (home left : ℕ → Option D) (old new : Counts) : Type 0 where
-  pub ran : LogRanSo tells sight range status unread before after home left old.disks new.disks
+  pub ran : LogRanSo tells sight faults range status unread before after home left old.disks new.disks
   pub blame : Blames status old new
   pub counts : NoneFell old new
 

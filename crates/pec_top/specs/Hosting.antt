@@ -24,12 +24,12 @@ CountsGo status old new = Blames status old new × NoneFell old new
 
 -- It served over a depot that had these disks at home, by provider, and has those, while the counts of faults of disks rose
 -- so; and what the disks went through between. The same as `ServiceRanThrough`, but for the counts of other devices.
-pub record HasServedOver {D : Type 0} (tells : Type 0) (sight : D → Sight) (asked : Asked) (status : statuses.Status)
+pub record HasServedOver {D : Type 0} (tells : Type 0) (sight : D → Sight) (faults : D → ℕ) (asked : Asked) (status : statuses.Status)
     (unread before after : Option Bytes) (home left : ℕ → Option D) (here there : Outside) (from upto : ℕ → ℕ)
     : Type 0 where
   pub so : HasServed asked status unread before after tells (disks_at tells sight home) (disks_at tells sight left) here
       there from upto
-  pub through : DisksWent tells sight home left from upto asked so.happened
+  pub through : DisksWent tells sight faults home left from upto asked so.happened
 
 -- ---- how a service ended
 

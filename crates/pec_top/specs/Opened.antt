@@ -64,7 +64,8 @@ module _ {D S : Type 0} (tells reads : Type 0) (sight : D → Sight) (seals : S 
         → AreKept (tells × reads) sight (length network.kept) state left new
         → AreLeft (disks_at (tells × reads) sight home) (disks_at (tells × reads) sight new) form
         (record { journals = journals_had network.providers; next = NoMore }) after
-    pub apart : tells → (provider : ℕ) → length network.kept ≤ provider → home provider ≢ None → left provider ≢ None
+    -- Disks that are no provider's stay at home.
+    pub apart : tells → (provider : ℕ) → length network.kept ≤ provider → left provider ≡ home provider
 
 -- ---- not all are had
 

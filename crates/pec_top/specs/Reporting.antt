@@ -27,8 +27,8 @@ Reports reports.Asked told trade sites = IsTold told trade sites
 Reports _ told trade sites = Unit {0}
 
 -- The program ran so, and where it was done what was asked was told of the state in which it ended, unless it strayed.
-pub record RanReporting {D : Type 0} (tells : Type 0) (sight : D → Sight) (asked : Asked) (status : Status)
+pub record RanReporting {D : Type 0} (tells : Type 0) (sight : D → Sight) (faults : D → ℕ) (asked : Asked) (status : Status)
     (unread before after : Option Bytes) (home left : ℕ → Option D) (from upto : ℕ → ℕ) (report told : Report) : Type 0 where
-  pub ran : RanSoOver tells sight asked status unread before after home left from upto
+  pub ran : RanSoOver tells sight faults asked status unread before after home left from upto
   pub reported : status ≡ statuses.Done → (outcome_of asked ran.so.happened).finish ≢ Strays
       → Reports report told (world ran.so.happened) (outcome_of asked ran.so.happened).after

@@ -42,10 +42,10 @@ pub record RanSo (asked : Asked) (status : Status) (unread before after : Option
       (stage_of asked happened.hands happened.early happened.parts)
 
 -- The same over a depot that had these disks at home, by provider, and has those; and what they went through between.
-pub record RanSoOver {D : Type 0} (tells : Type 0) (sight : D → Sight) (asked : Asked) (status : Status)
+pub record RanSoOver {D : Type 0} (tells : Type 0) (sight : D → Sight) (faults : D → ℕ) (asked : Asked) (status : Status)
     (unread before after : Option Bytes) (home left : ℕ → Option D) (from upto : ℕ → ℕ) : Type 0 where
   pub so : RanSo asked status unread before after tells (disks_at tells sight home) (disks_at tells sight left) from upto
-  pub through : DisksWent tells sight home left from upto asked so.happened
+  pub through : DisksWent tells sight faults home left from upto before after asked so.happened
 
 -- Each disk that was at home is at home again.
 abbrev pub AreHomeAgain : {D : Type 0} → (old new : ℕ → Option D) → Type 0

@@ -24,7 +24,7 @@ abbrev pub ReadsOver : {D S : Type 0} → Type 0 → (D → Sight) → (D → �
     → (old new : NetworkState D S) → (unread before after : Option Bytes) → (from upto : ℕ) → Status → Type 0
 ReadsOver tells sight faults seals spares left old new unread before after from upto status =
     (tells → AllStand sight old.providers) → (elsewhere : ℕ → ℕ)
-    → IsRead (world_of seals old) (providers_of old.kept) tells sight
+    → IsRead (world_of seals old) (providers_of old.kept) tells sight faults
     (at_first (point_of faults elsewhere spares old before from) unread) (point_of faults elsewhere left new after upto) status
 
 -- Behind a script the disks of providers are at home, each with the journal of its provider in this state, with its

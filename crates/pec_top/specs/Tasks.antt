@@ -102,18 +102,18 @@ view_of unread source held sink home last depot moments clock requests replies o
   counts = counts_of source sink depot last clock door;
 }
 
-module _ {D : Type 0} (tells : Type 0) (sight : D → Sight) (words : List Bytes)
+module _ {D : Type 0} (tells : Type 0) (sight : D → Sight) (faults : D → ℕ) (words : List Bytes)
     (screens : List (List Patterns)) (spares : List Patterns) (status : Status) (old new : View D) where
   -- A script was played; or the words have no form. It says of each moment of it what a crash may leave.
   abbrev pub HasPlayed : Type 0
   HasPlayed =
-      RanThrough tells sight (record { words = words; screens = screens; spares = spares }) status old.unread old.held
+      RanThrough tells sight faults (record { words = words; screens = screens; spares = spares }) status old.unread old.held
       new.held old.home new.home old.counts.devices new.counts.devices
 
   -- Connections were served. It says of each moment of it what a crash may leave.
   abbrev pub HasServed : ℕ → Type 0
   HasServed wanted =
-      ServiceRanThrough tells sight (record { wanted = wanted; screens = screens }) status old.unread old.held new.held
+      ServiceRanThrough tells sight faults (record { wanted = wanted; screens = screens }) status old.unread old.held new.held
       old.home new.home old.outside new.outside old.counts new.counts
 
   -- The directory was written as LDIF.
@@ -127,13 +127,13 @@ module _ {D : Type 0} (tells : Type 0) (sight : D → Sight) (words : List Bytes
   -- An extract of logs was written, of this range.
   abbrev pub HasExtracted : Range → Type 0
   HasExtracted range =
-      LogRan tells sight range status old.unread old.held new.held old.home new.home old.counts.devices
+      LogRan tells sight faults range status old.unread old.held new.held old.home new.home old.counts.devices
       new.counts.devices
 
   -- A load of so many messages was played.
   abbrev pub HasLoaded : ℕ → Type 0
   HasLoaded count =
-      LoadRan tells sight count screens status old.held new.held old.home new.home old.counts.devices new.counts.devices
+      LoadRan tells sight faults count screens status old.held new.held old.home new.home old.counts.devices new.counts.devices
 
   -- A run that does so.
   abbrev pub IsRun : Task → Type 0
@@ -146,11 +146,11 @@ module _ {D : Type 0} (tells : Type 0) (sight : D → Sight) (words : List Bytes
   IsRun NoForm = HasPlayed
 
 -- A run of the program on these words, with screens and spares of these patterns. `tells`: the depot tells its disks;
--- `reads`: these tell what they hold.
-pub record ProgramRan {D : Type 0} (tells reads : Type 0) (sight : D → Sight) (words : List Bytes)
+-- `reads`: these tell what they hold; `faults`: the count of faults that a disk itself tells.
+pub record ProgramRan {D : Type 0} (tells reads : Type 0) (sight : D → Sight) (faults : D → ℕ) (words : List Bytes)
     (screens : List (List Patterns)) (spares : List Patterns) (status : Status) (old new : View D) : Type 0 where
   -- it is one of the kind that the words ask for
-  pub is_run : IsRun (tells × reads) sight words screens spares status old new (task_in words)
+  pub is_run : IsRun (tells × reads) sight faults words screens spares status old new (task_in words)
   -- at status 0 the input was read to its end, where it is read
   pub all_read : status ≡ statuses.Done → reads_input (task_in words) ≡ true → IsAtEnd new.unread
   -- each connection that was let in is closed

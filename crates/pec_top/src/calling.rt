@@ -22,23 +22,23 @@ use pec_service::calls_go_on_from_one_another;
 /// that are Fit. So it is with any other row of calls: law `calls_go_on_from_one_another` of pec_service.
 pub fn four_calls_go_on_from_one_another<P: Depot>()
     ensures plays { (call : Call P.D) (form : Form)
-        → IsRun (P.tells × P.D.tells) P.D.sight call.words call.screens call.spares
+        → IsRun (P.tells × P.D.tells) P.D.sight P.D.faults call.words call.screens call.spares
         call.status call.old call.new (Plays form)
-        → RanThrough (P.tells × P.D.tells) P.D.sight (run_of call).asked (run_of call).status (run_of call).unread
+        → RanThrough (P.tells × P.D.tells) P.D.sight P.D.faults (run_of call).asked (run_of call).status (run_of call).unread
         (run_of call).before (run_of call).after (run_of call).home (run_of call).left (run_of call).old
         (run_of call).new }
     ensures serves { (call : Call P.D) (wanted : ℕ)
-        → IsRun (P.tells × P.D.tells) P.D.sight call.words call.screens call.spares
+        → IsRun (P.tells × P.D.tells) P.D.sight P.D.faults call.words call.screens call.spares
         call.status call.old call.new (Serves wanted)
-        → ServiceRanThrough (P.tells × P.D.tells) P.D.sight (service_of wanted call).asked
+        → ServiceRanThrough (P.tells × P.D.tells) P.D.sight P.D.faults (service_of wanted call).asked
         (service_of wanted call).status (service_of wanted call).unread (service_of wanted call).before
         (service_of wanted call).after
         (service_of wanted call).home (service_of wanted call).left (service_of wanted call).here
         (service_of wanted call).there (service_of wanted call).old (service_of wanted call).new }
     ensures loads { (call : Call P.D) (count : ℕ)
-        → (load : IsRun (P.tells × P.D.tells) P.D.sight call.words call.screens call.spares
+        → (load : IsRun (P.tells × P.D.tells) P.D.sight P.D.faults call.words call.screens call.spares
         call.status call.old call.new (Loads count))
-        → RanThrough (P.tells × P.D.tells) P.D.sight
+        → RanThrough (P.tells × P.D.tells) P.D.sight P.D.faults
         (load_of count call load.played load.lines load.source load.sink).asked
         (load_of count call load.played load.lines load.source load.sink).status
         (load_of count call load.played load.lines load.source load.sink).unread
@@ -50,13 +50,13 @@ pub fn four_calls_go_on_from_one_another<P: Depot>()
         (load_of count call load.played load.lines load.source load.sink).new }
     ensures four { P.tells × P.D.tells → (trade : Trade) (first second third fourth : Call P.D) (wanted : ℕ)
         → AreEmpty trade (held (P.tells × P.D.tells) P.D.sight first.old.home)
-        → RanHonestly (P.tells × P.D.tells) P.D.sight trade (run_of first)
+        → RanHonestly (P.tells × P.D.tells) P.D.sight P.D.faults trade (run_of first)
         → AreFoundAs (P.tells × P.D.tells) P.D.sight trade first.new.home second.old.home
-        → RanHonestly (P.tells × P.D.tells) P.D.sight trade (run_of second)
+        → RanHonestly (P.tells × P.D.tells) P.D.sight P.D.faults trade (run_of second)
         → AreFoundAs (P.tells × P.D.tells) P.D.sight trade second.new.home third.old.home
-        → ServedHonestly (P.tells × P.D.tells) P.D.sight trade (service_of wanted third)
+        → ServedHonestly (P.tells × P.D.tells) P.D.sight P.D.faults trade (service_of wanted third)
         → AreFoundAs (P.tells × P.D.tells) P.D.sight trade third.new.home fourth.old.home
-        → (honest : RanHonestly (P.tells × P.D.tells) P.D.sight trade (run_of fourth)) (script : Script)
+        → (honest : RanHonestly (P.tells × P.D.tells) P.D.sight P.D.faults trade (run_of fourth)) (script : Script)
         → stage_of (run_of fourth).asked honest.ran.ran.happened.hands honest.ran.ran.happened.early
         honest.ran.ran.happened.parts ≡ Begun Resume script
         → honest.ran.ran.happened.opening.next ≡ NoMore

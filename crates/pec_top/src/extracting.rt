@@ -37,7 +37,7 @@ pub(crate) fn extract_form<S: Source, W: Sink, P: Depot, J: Judge>(
     out: &mut W,
     depot: &mut P,
 ) -> Status
-    ensures ran { LogRanSo (P.tells × P.D.tells) P.D.sight (range_shown (from, upto)) (status_shown result)
+    ensures ran { LogRanSo (P.tells × P.D.tells) P.D.sight P.D.faults (range_shown (from, upto)) (status_shown result)
         (S.left input.old) (W.held out.old) (W.held out.new) (P.home depot.old) (P.home depot.new)
         (P.last depot.old) (P.last depot.new) }
     ensures all_read { status_shown result ≡ statuses.Done → IsAtEnd (S.left input.new) }
@@ -66,7 +66,7 @@ fn extract_opened<W: Sink, P: Depot, J: Judge>(
     depot: &mut P,
 ) -> Status
     ensures ran { (unread left : Option Bytes) → IsWholeTaken unread left (providers_of directory)
-        → LogRanSo (P.tells × P.D.tells) P.D.sight (range_shown (from, upto)) (status_shown result)
+        → LogRanSo (P.tells × P.D.tells) P.D.sight P.D.faults (range_shown (from, upto)) (status_shown result)
         unread (W.held out.old) (W.held out.new) (P.home depot.old) (P.home depot.new)
         (P.last depot.old) (P.last depot.new) }
     ensures counts { DevicesGo (status_shown result)

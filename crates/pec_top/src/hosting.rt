@@ -42,7 +42,7 @@ pub(crate) fn serve_form<
 ) -> Result<End, Stop>
 where
     J::Spare: Send,
-    ensures served { HasServedOver (P.tells × P.D.tells) P.D.sight
+    ensures served { HasServedOver (P.tells × P.D.tells) P.D.sight P.D.faults
         (record { wanted = wanted; screens = map J.patterns screens.items })
         (result_shown result) (S.left input.old) (W.held out.old) (W.held out.new)
         (P.home depot.old) (P.home depot.new)
@@ -83,7 +83,7 @@ fn serve_opened<X: Threads + Sync, W: Sink, P: Depot, T: Ticks, R: Door, J: Judg
 where
     J::Spare: Send,
     ensures served { (unread left : Option Bytes) → IsWholeTaken unread left (providers_of directory)
-        → HasServedOver (P.tells × P.D.tells) P.D.sight
+        → HasServedOver (P.tells × P.D.tells) P.D.sight P.D.faults
         (record { wanted = wanted; screens = map J.patterns screens.items })
         (result_shown result) unread (W.held out.old) (W.held out.new)
         (P.home depot.old) (P.home depot.new)

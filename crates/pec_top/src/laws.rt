@@ -28,7 +28,7 @@ use pec_serving::Network;
 /// that were opened are Fit.
 pub fn an_extract_of_fit_journals_tells_no_change<P: Depot>()
     ensures { (range : Range) (status : Status) (unread before after : Option Bytes) (depot left : P) (from upto : ℕ → ℕ)
-        (ran : LogRanSo (P.tells × P.D.tells) P.D.sight range status unread before after (P.home depot) (P.home left)
+        (ran : LogRanSo (P.tells × P.D.tells) P.D.sight P.D.faults range status unread before after (P.home depot) (P.home left)
         from upto) → P.tells × P.D.tells
         → Fit (trade_in ran.so.setting) (journals_in ran.so.opening.journals) → status ≢ statuses.Changed }
 {
@@ -46,7 +46,7 @@ pub(crate) fn a_network_is_whole<D, H: Sealer, J: Judge>(network: &Network<D, H,
 /// What is said of a loop over the lines of a script, in every world.
 pub(crate) fn a_loop_climbs<P: Depot>()
     ensures { (trade : Trade) (providers : List Provider)
-        → LoopLaws P.D (P.tells × P.D.tells) P.D.sight trade providers }
+        → LoopLaws P.D (P.tells × P.D.tells) P.D.sight P.D.faults trade providers }
 {
     lines_are_the_text();
     acts_are_joined::<P>();

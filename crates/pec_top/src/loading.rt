@@ -42,7 +42,7 @@ where
     J::Spare: Send,
     requires { count ≤ MOST_MESSAGES }
     // (the input isn't touched, so its count stands still)
-    ensures loaded { (input : ℕ) → LoadRan (P.tells × P.D.tells) P.D.sight count (map J.patterns screens.items)
+    ensures loaded { (input : ℕ) → LoadRan (P.tells × P.D.tells) P.D.sight P.D.faults count (map J.patterns screens.items)
         (result_shown result) (W.held out.old) (W.held out.new) (P.home depot.old) (P.home depot.new)
         (record { source = input; sink = W.faults out.old; depot = P.faults depot.old; disks = P.last depot.old })
         (record { source = input; sink = W.faults out.new; depot = P.faults depot.new; disks = P.last depot.new }) }

@@ -1,4 +1,4 @@
-ghost use Rattle.std.specs.Prelude.{◌≡◌, ◌≢◌, ◌&&◌, ◌⊎◌, ℕ, ◌<◌, ◌≤◌, List, None, Option, map, IfOk, IfErr, OnErr};
+ghost use Rattle.std.specs.Prelude.{◌≡◌, ◌≢◌, ◌&&◌, ◌⊎◌, ℕ, ◌<◌, ◌≤◌, List, None, Option, map, IfOk, IfErr, OnErr, IsErrOf};
 ghost use Rattle.pec_outside.specs.Depots.{depot_places};
 ghost use Rattle.pec_directory.specs.Directory.{Provider, providers_of};
 ghost use Rattle.pec_runs.specs.Openings.{Unfits, disks_at};
@@ -7,7 +7,7 @@ ghost use Rattle.pec_runs.specs.Ran.{TellsAs};
 ghost use Rattle.pec_runs.specs.Through.{AreHadFrom};
 ghost use Rattle.pec_service.specs.Runs.{finish_at, is_headless};
 ghost use Rattle.pec_serving.specs.OfNetworks.faults as faults;
-ghost use Rattle.pec_top.specs.Blaming.{BlamesRefusal, HaveDisksRisen};
+ghost use Rattle.pec_top.specs.Blaming.{BlamesRefusal, HasLine, HaveDisksRisen};
 ghost use Rattle.pec_top.specs.Opened.{Finishes, IsFormOf, IsLookedAgain, IsOpened, IsRefusedSo, IsUnfit};
 ghost use Rattle.pec_top.specs.Opened.{IsUnopened, asked_again, headless_of, next_by, provider_named};
 ghost use Rattle.pec_top.specs.Running.{AreHomeAgain};
@@ -108,6 +108,8 @@ fn form_of<P: Depot>(how: Journals, depot: &mut P, count: u32) -> Result<Form, F
     requires { count ≤ depot_places }
     ensures is { IfOk result (λ form.
         IsFormOf (disks_at (P.tells × P.D.tells) P.D.sight (P.home depot.old)) count how (form_shown form)) }
+    ensures elsewhere { P.tells → (provider : ℕ) → count ≤ provider
+        → P.home depot.new provider ≡ P.home depot.old provider }
     ensures rest { P.tells → AreAsTheyWere P.D.tells P.D.sight (P.home depot.old) (P.home depot.new) }
     ensures chosen { OnErr result (how ≡ Journals.Chosen) }
     ensures last { (provider : ℕ) → P.last depot.old provider ≤ P.last depot.new provider }
@@ -255,6 +257,7 @@ pub(crate) fn end_refused<W: Sink>(refusal: Refusal, out: &mut W) -> Result<End,
     ensures told { (providers : List Provider) (finish : Finish) → Finishes providers refusal finish
         → TellsAs (result_shown result) (W.held out.old) (W.held out.new) (finish_text providers finish) finish }
     ensures blame { IfErr result (BlamesRefusal refusal (W.faults out.old) (W.faults out.new)) }
+    ensures line { IsErrOf result Stop.WriteFault → HasLine refusal }
     ensures later { W.faults out.old ≤ W.faults out.new }
     ensures not_done { IfOk result (λ end. end ≢ End.Done) }
 {

@@ -40,7 +40,7 @@ pub(crate) fn run_form<X: Threads + Sync, S: Source, W: Sink, P: Depot, J: Judge
 where
     J::Spare: Send,
     ensures ran { (words : List Bytes) → form_in words ≡ Some (form_shown form)
-        → RanReporting (P.tells × P.D.tells) P.D.sight
+        → RanReporting (P.tells × P.D.tells) P.D.sight P.D.faults
         (asked_with words (map J.patterns screens.items) (map J.spare_patterns spares.items)) (result_shown result)
         (S.left input.old) (W.held out.old) (W.held out.new) (P.home depot.old) (P.home depot.new)
         (P.last depot.old) (P.last depot.new) report.old report.new }
@@ -89,7 +89,7 @@ where
     J::Spare: Send,
     ensures ran { (words : List Bytes) (unread : Option Bytes) → form_in words ≡ Some (form_shown form)
         → IsTaken unread (behind buffer.old (S.left source.old)) (providers_of directory)
-        → RanReporting (P.tells × P.D.tells) P.D.sight
+        → RanReporting (P.tells × P.D.tells) P.D.sight P.D.faults
         (asked_with words (map J.patterns screens.items) (map J.spare_patterns spares.items)) (result_shown result)
         unread (W.held out.old) (W.held out.new) (P.home depot.old) (P.home depot.new)
         (P.last depot.old) (P.last depot.new) report.old report.new }

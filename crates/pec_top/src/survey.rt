@@ -1,4 +1,4 @@
-ghost use Rattle.std.specs.Prelude.{◌⊎◌, ℕ, ◌<◌, ◌≤◌, IfOk, OnErr};
+ghost use Rattle.std.specs.Prelude.{◌≡◌, ◌≢◌, ◌⊎◌, ℕ, ◌<◌, ◌≤◌, IfOk, OnErr};
 ghost use Rattle.pec_outside.specs.Depots.{depot_places};
 ghost use Rattle.pec_outside.specs.Flow.{HasRisen};
 ghost use Rattle.pec_runs.specs.Openings.{disks_at};
@@ -15,6 +15,8 @@ pub(crate) fn choose_form<P: Depot>(depot: &mut P, count: u32) -> Result<Form, F
     requires { count ≤ depot_places }
     ensures chosen { IfOk result (λ form.
         IsChosen (disks_at (P.tells × P.D.tells) P.D.sight (P.home depot.old)) count (form_shown form)) }
+    ensures elsewhere { P.tells → (provider : ℕ) → count ≤ provider
+        → P.home depot.new provider ≡ P.home depot.old provider }
     ensures rest { P.tells → AreAsTheyWere P.D.tells P.D.sight (P.home depot.old) (P.home depot.new) }
     ensures last { (provider : ℕ) → P.last depot.old provider ≤ P.last depot.new provider }
     ensures later { P.faults depot.old ≤ P.faults depot.new }
@@ -34,6 +36,8 @@ pub(crate) fn choose_form<P: Depot>(depot: &mut P, count: u32) -> Result<Form, F
 pub(crate) fn holds_something<P: Depot>(depot: &mut P, provider: u32) -> Result<bool, Failed>
     requires { provider < depot_places }
     ensures holds { P.tells → IfOk result (HoldsSo P.D.tells P.D.sight (P.home depot.old provider)) }
+    ensures elsewhere { P.tells → (number : ℕ) → number ≢ provider
+        → P.home depot.new number ≡ P.home depot.old number }
     ensures rest { P.tells → AreAsTheyWere P.D.tells P.D.sight (P.home depot.old) (P.home depot.new) }
     ensures last { (number : ℕ) → P.last depot.old number ≤ P.last depot.new number }
     ensures later { P.faults depot.old ≤ P.faults depot.new }

@@ -48,7 +48,7 @@ where
     // One run of the kind that the words ask for: what was written, the status, the counts of faults, what clock and
     // door gave and got, and what the disks hold; and at status 0 an input that is read was read to its end, each
     // connection that was accepted is closed, and each disk that was at home is at home again.
-    ensures ran { ProgramRan P.tells P.D.tells P.D.sight (map string_bytes words.now)
+    ensures ran { ProgramRan P.tells P.D.tells P.D.sight P.D.faults (map string_bytes words.now)
         (map J.patterns screens.items) (map J.spare_patterns spares.items) (status_shown result)
         (view_of (S.left input.old) (S.faults input.old) (W.held out.old) (W.faults out.old)
         (P.home depot.old) (P.last depot.old) (P.faults depot.old) (T.coming ticks.old) (T.faults ticks.old)

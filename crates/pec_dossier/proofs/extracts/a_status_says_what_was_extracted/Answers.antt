@@ -7,32 +7,33 @@ pub returns : goal.returns
 returns g c =
     let tells = g.P.Depot.tells × g.P.D.Disk.tells in
     let sight = g.P.D.Disk.sight in
+    let faults = g.P.D.Counted.faults in
     record {
       done = λ text_of header range unread before after depot left from upto ran.
-          done_so text_of header tells sight range before after (g.P.Depot.home depot) (g.P.Depot.home left) from upto
+          done_so text_of header tells sight faults range before after (g.P.Depot.home depot) (g.P.Depot.home left) from upto
           unread ran;
       faulted = λ text_of header range status unread before after depot left from upto is ran.
-          faulted_so text_of header tells sight range before after (g.P.Depot.home depot) (g.P.Depot.home left) from
+          faulted_so text_of header tells sight faults range before after (g.P.Depot.home depot) (g.P.Depot.home left) from
           upto status unread is ran;
       refused = λ text_of header range unread before after depot left from upto ran.
-          refused_so text_of header tells sight range before after (g.P.Depot.home depot) (g.P.Depot.home left) from
+          refused_so text_of header tells sight faults range before after (g.P.Depot.home depot) (g.P.Depot.home left) from
           upto unread ran;
       too_long = λ text_of header range unread before after depot left from upto ran.
-          long_so text_of header tells sight range before after (g.P.Depot.home depot) (g.P.Depot.home left) from upto
+          long_so text_of header tells sight faults range before after (g.P.Depot.home depot) (g.P.Depot.home left) from upto
           unread ran;
       not_fit = λ text_of header range unread before after depot left from upto ran.
-          unfit_so text_of header tells sight range before after (g.P.Depot.home depot) (g.P.Depot.home left) from upto
+          unfit_so text_of header tells sight faults range before after (g.P.Depot.home depot) (g.P.Depot.home left) from upto
           unread ran;
       not_opened = λ text_of header range unread before after depot left from upto ran.
-          failing_so text_of header tells sight range before after (g.P.Depot.home depot) (g.P.Depot.home left) from
+          failing_so text_of header tells sight faults range before after (g.P.Depot.home depot) (g.P.Depot.home left) from
           upto unread ran;
       stopped = λ text_of header range unread before after depot left from upto ran.
-          stopped_so text_of header tells sight range before after (g.P.Depot.home depot) (g.P.Depot.home left) from
+          stopped_so text_of header tells sight faults range before after (g.P.Depot.home depot) (g.P.Depot.home left) from
           upto unread ran;
       no_other = λ text_of header range status unread before after depot left from upto ran.
-          status_so text_of header tells sight range before after (g.P.Depot.home depot) (g.P.Depot.home left) from upto
+          status_so text_of header tells sight faults range before after (g.P.Depot.home depot) (g.P.Depot.home left) from upto
           status unread ran;
       whole = λ text_of header range status text before after depot left old new ran none short providers reads fit.
-          whole_so text_of header tells sight range before after (g.P.Depot.home depot) (g.P.Depot.home left) old new none
+          whole_so text_of header tells sight faults range before after (g.P.Depot.home depot) (g.P.Depot.home left) old new none
           text short providers reads status ran fit;
     }

@@ -15,9 +15,9 @@ returns g c =
     } in
     record {
       done = λ screens count before after depot left old new few load.
-          load_done told screens count before after (g.P.Depot.tells × g.P.D.Disk.tells) g.P.D.Disk.sight (g.P.Depot.home depot)
+          load_done told screens count before after (g.P.Depot.tells × g.P.D.Disk.tells) g.P.D.Disk.sight g.P.D.Counted.faults (g.P.Depot.home depot)
           (g.P.Depot.home left) old new few load;
       quiet = λ screens count status before after depot left old new load none.
-          load_quiet count screens before after (g.P.Depot.tells × g.P.D.Disk.tells) g.P.D.Disk.sight (g.P.Depot.home depot)
+          load_quiet count screens before after (g.P.Depot.tells × g.P.D.Disk.tells) g.P.D.Disk.sight g.P.D.Counted.faults (g.P.Depot.home depot)
           (g.P.Depot.home left) old new status load none;
     }

@@ -10,7 +10,7 @@ use Rattle.pec_playing.proofs.SpareLemmas.{last_hands}
 use Rattle.pec_runs.specs.Steps.{IsMoment}
 use Rattle.pec_playing.specs.Points.{point_of}
 use Rattle.pec_playing.specs.declared.stops.Stop.{Stop}
-use Rattle.pec_playing.proofs.MomentLemmas.{is_moment}
+use Rattle.pec_playing.proofs.MomentLemmas.{is_moment, state_counted}
 use Rattle.pec_playing.proofs.PlayLemmas.{play_says, play_stops}
 use Rattle.pec_playing.proofs.WritingLemmas.{ActLaws, play_breaks, play_ends, play_lacks}
 use Rattle.pec_playing.proofs.playing.play_and_write.Goals as goal
@@ -35,9 +35,10 @@ returns-in_err-text-clause-goes g c = λ stands elsewhere.
     (record { follows = c.a_call_leaves_what_follows.ensures.follows trade; seen = c.a_call_leaves_what_follows.ensures.seen })
     old new does.keeps.many c.in_err-text.ensures.carries told.1
     g.D.Counted.faults elsewhere spares left held held count count in
-    let laws : ActLaws g.D.Disk.sight trade providers tells command here there = record {
+    let laws : ActLaws g.D.Disk.sight g.D.Counted.faults trade providers tells command here there = record {
       played_so = λ luck stop is handed.
-          c.an_act_is_done.ensures.played trade providers command luck here there stop is handed moment;
+          c.an_act_is_done.ensures.played trade providers command luck here there stop is handed
+              (state_counted g.D.Counted.faults elsewhere left new) moment;
       stopped_so = λ left. c.an_act_is_done.ensures.stopped trade providers command here there left moment;
       strayed_so = λ text stop. c.an_act_is_done.ensures.strayed trade providers command here there text stop;
     } in
@@ -69,9 +70,10 @@ returns-in_err-write_all-clause-goes g c = λ stands elsewhere.
     (record { follows = c.a_call_leaves_what_follows.ensures.follows trade; seen = c.a_call_leaves_what_follows.ensures.seen })
     old new does.keeps.many c.in_ok-text.ensures.carries told.1
     g.D.Counted.faults elsewhere spares left before after from upto in
-    let laws : ActLaws g.D.Disk.sight trade providers tells command here there = record {
+    let laws : ActLaws g.D.Disk.sight g.D.Counted.faults trade providers tells command here there = record {
       played_so = λ luck stop is handed.
-          c.an_act_is_done.ensures.played trade providers command luck here there stop is handed moment;
+          c.an_act_is_done.ensures.played trade providers command luck here there stop is handed
+              (state_counted g.D.Counted.faults elsewhere left new) moment;
       stopped_so = λ left. c.an_act_is_done.ensures.stopped trade providers command here there left moment;
       strayed_so = λ text stop. c.an_act_is_done.ensures.strayed trade providers command here there text stop;
     } in
@@ -106,9 +108,10 @@ returns-clause-goes g c = λ stands elsewhere.
     (record { follows = c.a_call_leaves_what_follows.ensures.follows trade; seen = c.a_call_leaves_what_follows.ensures.seen })
     old new does.keeps.many c.in_ok-text.ensures.carries told.1
     g.D.Counted.faults elsewhere spares left before after from upto in
-    let laws : ActLaws g.D.Disk.sight trade providers tells command here there = record {
+    let laws : ActLaws g.D.Disk.sight g.D.Counted.faults trade providers tells command here there = record {
       played_so = λ luck stop is handed.
-          c.an_act_is_done.ensures.played trade providers command luck here there stop is handed moment;
+          c.an_act_is_done.ensures.played trade providers command luck here there stop is handed
+              (state_counted g.D.Counted.faults elsewhere left new) moment;
       stopped_so = λ left. c.an_act_is_done.ensures.stopped trade providers command here there left moment;
       strayed_so = λ text stop. c.an_act_is_done.ensures.strayed trade providers command here there text stop;
     } in

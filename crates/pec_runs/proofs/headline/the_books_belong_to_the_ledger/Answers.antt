@@ -1,8 +1,11 @@
 -- The headline: from the lemmas and the laws of the ledger and of plays.
-use Rattle.std.proofs.Common.{◌+◌}
+use Rattle.std.proofs.Common.{◌≡◌, ℕ, suc, ◌+◌, subst, arith}
+use Rattle.pec_ledger.specs.Network.{journals_of}
 use Rattle.pec_ledger.specs.Trade.{Trade}
 use Rattle.pec_ledger.specs.TradeLaws.{IsTrade}
-use Rattle.pec_runs.proofs.HeadlineLemmas.{PlayLaws, book_at, none_would, notices_at, stands_at}
+use Rattle.pec_runs.specs.Headline.{state_before}
+use Rattle.pec_runs.specs.Reaching.{IsReached}
+use Rattle.pec_runs.proofs.HeadlineLemmas.{PlayLaws, book_at, none_would, notices_at, onward_at, stands_at}
 use Rattle.pec_runs.proofs.headline.the_books_belong_to_the_ledger.Goals as goal
 
 pub returns : goal.returns
@@ -22,6 +25,11 @@ returns c =
     let each = stands_at trade (laws trade world) world lucks start commands sound (none_would trade start none) given
     in record {
       each = each;
+      onward = λ number.
+          let next : suc number ≡ number + 1 = omega arith in
+          subst (λ (behind : ℕ). IsReached trade (journals_of (state_before trade lucks start commands number))
+          (journals_of (state_before trade lucks start commands behind))) next
+          (onward_at trade (laws trade world) number lucks start commands sound (none_would trade start none) given);
       books = book_at trade lucks start commands;
       notices = λ number p now marks. notices_at trade lucks start commands number p now marks
           (each (number + 1)).kept.notice_by_the_day;

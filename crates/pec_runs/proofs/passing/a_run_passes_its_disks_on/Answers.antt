@@ -9,7 +9,7 @@ use Rattle.pec_runs.proofs.passing.a_run_passes_its_disks_on.Goals as goal
 pub returns-clause-ended : goal.returns-clause-ended
 returns-clause-ended g c =
     λ told trade asked status unread before after home left found old new ran same at_home honest left_as.
-    run_passes (g.P.Depot.tells × g.P.D.Disk.tells) g.P.D.Disk.sight asked status unread before after home left old new ran
+    run_passes (g.P.Depot.tells × g.P.D.Disk.tells) g.P.D.Disk.sight g.P.D.Counted.faults asked status unread before after home left old new ran
     c.a_line_has_one_reading.ensures (c.disks_are_passed_on.ensures.stopped told) (c.disks_are_passed_on.ensures.ended told)
     (λ form goes honest_so is_trade. c.disks_are_passed_on.ensures.moves (world ran.ran.happened) is_trade home left old.disks
     new.disks form ran.ran.happened.screens ran.ran.happened.opening.journals goes honest_so)
@@ -42,15 +42,16 @@ returns-clause-killed g c =
     killed.
     let tells = g.P.Depot.tells × g.P.D.Disk.tells in
     let sight = g.P.D.Disk.sight in
+    let faults = g.P.D.Counted.faults in
     let played = ran.through.played form script begun all in
-    let is_trade = world_is tells sight asked status unread before after home left old new ran form script begun in
+    let is_trade = world_is tells sight faults asked status unread before after home left old new ran form script begun in
     let keep = c.disks_are_passed_on.ensures.moves (world ran.ran.happened) is_trade home left old.disks new.disks form
     ran.ran.happened.screens ran.ran.happened.opening.journals played.goes
-    (honest_steps tells sight asked status unread before after home left old new ran form script begun
+    (honest_steps tells sight faults asked status unread before after home left old new ran form script begun
     c.a_line_has_one_reading.ensures played honest) in
     c.disks_are_passed_on.ensures.killed told (world ran.ran.happened) is_trade
     home left found old.disks new.disks form ran.ran.happened.screens ran.ran.happened.opening
-    (opening_is tells sight asked status unread before after home left old new ran form script begun) all at_home
-    (as_moves tells sight home left old.disks new.disks (world ran.ran.happened) form ran.ran.happened.screens
+    (opening_is tells sight faults asked status unread before after home left old new ran form script begun) all at_home
+    (as_moves tells sight faults home left old.disks new.disks (world ran.ran.happened) form ran.ran.happened.screens
     ran.ran.happened.opening.journals played.goes keep)
     number within killed

@@ -4,7 +4,7 @@ use Rattle.pec_runs.proofs.passing.runs_go_on_from_one_another.Goals as goal
 
 pub returns-clause-fitting : goal.returns-clause-fitting
 returns-clause-fitting g c = λ told trade first more none are.
-    runs_on (g.P.Depot.tells × g.P.D.Disk.tells) g.P.D.Disk.sight trade
+    runs_on (g.P.Depot.tells × g.P.D.Disk.tells) g.P.D.Disk.sight g.P.D.Counted.faults trade
     (λ run next honest left_as.
     c.a_run_passes_its_disks_on.ensures.ended told trade run.asked run.status run.unread run.before run.after run.home run.left
     next run.old run.new honest.ran honest.world_is honest.at_home honest.honest left_as)
@@ -13,5 +13,5 @@ returns-clause-fitting g c = λ told trade first more none are.
 
 pub returns-clause-opened : goal.returns-clause-opened
 returns-clause-opened g c = λ told trade run fitting honest script begun all.
-    opened_fit (g.P.Depot.tells × g.P.D.Disk.tells) g.P.D.Disk.sight trade run honest script begun
+    opened_fit (g.P.Depot.tells × g.P.D.Disk.tells) g.P.D.Disk.sight g.P.D.Counted.faults trade run honest script begun
     (λ opening is none. c.what_is_passed_on_fits.ensures.opened told trade run.home opening honest.at_home fitting is none) all

@@ -8,8 +8,9 @@ returns g c = record {
   fitting = λ told trade first more none are.
       let tells = g.P.Depot.tells × g.P.D.Disk.tells in
       let sight = g.P.D.Disk.sight in
-      calls_on tells sight trade
-      (call_passes tells sight trade
+      let faults = g.P.D.Counted.faults in
+      calls_on tells sight faults trade
+      (call_passes tells sight faults trade
       (λ run next honest left_as.
       c.a_run_passes_its_disks_on.ensures.ended told trade run.asked run.status run.unread run.before run.after run.home run.left
       next run.old run.new honest.ran honest.world_is honest.at_home honest.honest left_as)

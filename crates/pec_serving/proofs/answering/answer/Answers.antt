@@ -93,9 +93,10 @@ returns-clause-moves g c = λ elsewhere in_time.
     let many : length after.network.providers ≡ length c.args.network.providers =
     subst (λ (n : NetworkState g.row.D.Denot HmacSealer). length n.providers ≡ length c.args.network.providers) closed
     keeps.many in
-    subst (λ (n : NetworkState g.row.D.Denot HmacSealer). MovesOn trade g.D.Disk.tells g.D.Disk.sight
+    subst (λ (n : NetworkState g.row.D.Denot HmacSealer). MovesOn trade g.D.Disk.tells g.D.Disk.sight g.D.Counted.faults
     (state_in g.D.Counted.faults elsewhere [] c.args.network) (state_in g.D.Counted.faults elsewhere [] n)) (sym closed)
     (serves_move g.D.Disk.sight g.D.Counted.faults g.D.Disk.tells seals_of start after elsewhere in_time many
     (c.a_network_stays_sound.ensures.commands trade)
-    (λ told carries. c.what_carries_on_is_a_moment.ensures told trade c.args.network after.network many carries elsewhere [] [])
+    (c.what_carries_on_is_a_moment.ensures.counted after.network elsewhere [])
+    (λ told carries. c.what_carries_on_is_a_moment.ensures.moment told trade c.args.network after.network many carries elsewhere [] [])
     left held held_then c.serve_one-told.result serves)

@@ -21,7 +21,7 @@ loop-provider-init g c =
       climbs = λ stand elsewhere.
           let here = point_of g.D.Counted.faults elsewhere [] start (g.W.Stream.held c.args.out.now)
           (g.W.Counted.faults c.args.out.now) in
-          subst (λ (left : List Act). Climbs trade providers tells g.D.Disk.sight due left here here)
+          subst (λ (left : List Act). Climbs trade providers tells g.D.Disk.sight g.D.Counted.faults due left here here)
           (sym (all_due (length start.kept) c.args.moment)) (c.acts_are_joined.ensures.starts trade providers due here);
       keeps = c.what_is_kept_is_kept_on.ensures.none start;
       home = λ told k. refl;
@@ -58,12 +58,12 @@ loop-provider-preserved g c =
           (g.W.Counted.faults c.loop-provider.out) in
           c.acts_are_joined.ensures.on trade providers due (Plays (Tick number moment) ∷ [])
           (due_from size moment (number + 1)) first here _
-          (subst (λ (left : List Act). Climbs trade providers tells g.D.Disk.sight due left first here) (next_due size
+          (subst (λ (left : List Act). Climbs trade providers tells g.D.Disk.sight g.D.Counted.faults due left first here) (next_due size
           moment number below)
           (so.climbs stand elsewhere))
           (no_spares g.J.Judge.spare_patterns c.loop-provider.none c.play_and_write.new.spares so.spares
           (c.play_and_write.ensures.spared tt)
-          (λ (before behind : List Patterns). Goes trade providers tells g.D.Disk.sight (Plays (Tick number moment) ∷ [])
+          (λ (before behind : List Patterns). Goes trade providers tells g.D.Disk.sight g.D.Counted.faults (Plays (Tick number moment) ∷ [])
           (point_of g.D.Counted.faults elsewhere before c.loop-provider.network (g.W.Stream.held c.loop-provider.out)
           (g.W.Counted.faults c.loop-provider.out))
           (point_of g.D.Counted.faults elsewhere behind c.play_and_write.new.network (g.W.Stream.held c.play_and_write.new.out)
@@ -104,12 +104,12 @@ returns-in_err-play_and_write-clause-clock g c = λ stand elsewhere.
     (g.W.Counted.faults c.loop-provider.out) in
     let there = point_of g.D.Counted.faults elsewhere [] c.play_and_write.new.network
     (g.W.Stream.held c.play_and_write.new.out) (g.W.Counted.faults c.play_and_write.new.out) in
-    let climbs = subst (λ (left : List Act). Climbs trade providers tells g.D.Disk.sight due left first here)
+    let climbs = subst (λ (left : List Act). Climbs trade providers tells g.D.Disk.sight g.D.Counted.faults due left first here)
     (next_due size moment number below) (so.climbs stand elsewhere) in
     let stop = c.in_err-play_and_write.field-0.0 in
     let goes = (no_spares g.J.Judge.spare_patterns c.loop-provider.none c.play_and_write.new.spares so.spares
     (c.play_and_write.ensures.spared tt)
-    (λ (before behind : List Patterns). Goes trade providers tells g.D.Disk.sight (Plays (Tick number moment) ∷ [])
+    (λ (before behind : List Patterns). Goes trade providers tells g.D.Disk.sight g.D.Counted.faults (Plays (Tick number moment) ∷ [])
     (point_of g.D.Counted.faults elsewhere before c.loop-provider.network (g.W.Stream.held c.loop-provider.out)
     (g.W.Counted.faults c.loop-provider.out))
     (point_of g.D.Counted.faults elsewhere behind c.play_and_write.new.network (g.W.Stream.held c.play_and_write.new.out)
@@ -119,9 +119,9 @@ returns-in_err-play_and_write-clause-clock g c = λ stand elsewhere.
     let p = err_from_is_err_and c.from_residual.result
     c.from_residual.ensures.1 in
     rw (p.1, p.2) (c.acts_are_calls.ensures.went trade providers size 0 moment first there _
-    (by_stop (λ (o : Option Stop). Goes trade providers tells g.D.Disk.sight (Plays (Tick number moment) ∷ []) here
+    (by_stop (λ (o : Option Stop). Goes trade providers tells g.D.Disk.sight g.D.Counted.faults (Plays (Tick number moment) ∷ []) here
     there o)
-    (λ (o : Option Stop). Goes trade providers tells g.D.Disk.sight due first there o)
+    (λ (o : Option Stop). Goes trade providers tells g.D.Disk.sight g.D.Counted.faults due first there o)
     (λ why one. c.acts_are_joined.ensures.stops trade providers due (Plays (Tick number moment) ∷ [])
     (due_from size moment (number + 1)) first here there why climbs one) stop goes))
 
@@ -150,11 +150,11 @@ returns-clause-clock g c = λ stand elsewhere.
     let there = point_of g.D.Counted.faults elsewhere [] c.play_and_write-2.new.network (g.W.Stream.held
     c.play_and_write-2.new.out)
     (g.W.Counted.faults c.play_and_write-2.new.out) in
-    let climbs = subst (λ (left : List Act). Climbs trade providers tells g.D.Disk.sight due left first here)
+    let climbs = subst (λ (left : List Act). Climbs trade providers tells g.D.Disk.sight g.D.Counted.faults due left first here)
     (last_due size moment c.loop-provider.provider last) (so.climbs stand elsewhere) in
     let goes = (no_spares g.J.Judge.spare_patterns c.loop-provider.none c.play_and_write-2.new.spares so.spares
     (c.play_and_write-2.ensures.spared tt)
-    (λ (before behind : List Patterns). Goes trade providers tells g.D.Disk.sight (Plays (Round moment) ∷ [])
+    (λ (before behind : List Patterns). Goes trade providers tells g.D.Disk.sight g.D.Counted.faults (Plays (Round moment) ∷ [])
     (point_of g.D.Counted.faults elsewhere before c.loop-provider.network (g.W.Stream.held c.loop-provider.out)
     (g.W.Counted.faults c.loop-provider.out))
     (point_of g.D.Counted.faults elsewhere behind c.play_and_write-2.new.network (g.W.Stream.held c.play_and_write-2.new.out)
@@ -162,8 +162,8 @@ returns-clause-clock g c = λ stand elsewhere.
     (rw (so.keeps.directory, so.keeps.seals) at c.play_and_write-2.ensures.goes
     (λ told. so.keeps.stands told.1 (stand told)) elsewhere)) in
     c.acts_are_calls.ensures.went trade providers size 0 moment first there (stop_in c.play_and_write-2.result)
-    (by_result (λ (o : Option Stop). Goes trade providers tells g.D.Disk.sight (Plays (Round moment) ∷ []) here there o)
-    (λ (o : Option Stop). Goes trade providers tells g.D.Disk.sight due first there o)
+    (by_result (λ (o : Option Stop). Goes trade providers tells g.D.Disk.sight g.D.Counted.faults (Plays (Round moment) ∷ []) here there o)
+    (λ (o : Option Stop). Goes trade providers tells g.D.Disk.sight g.D.Counted.faults due first there o)
     (λ one. c.acts_are_joined.ensures.ends trade providers due first there
     (c.acts_are_joined.ensures.on trade providers due (Plays (Round moment) ∷ []) [] first here there climbs one))
     (λ why one. c.acts_are_joined.ensures.stops trade providers due (Plays (Round moment) ∷ []) [] first here there

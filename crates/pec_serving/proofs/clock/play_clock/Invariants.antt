@@ -18,7 +18,7 @@ invariant-loop-provider g l =
     record {
       climbs : (depot.tells × g.D.Disk.tells → AllStand g.D.Disk.sight l.fn.network.providers) → (elsewhere : ℕ → ℕ)
           → Climbs (world_of g.S.Sealer.seals l.fn.network) (providers_of l.fn.network.kept)
-          (depot.tells × g.D.Disk.tells) g.D.Disk.sight (map Plays (clock_from (length l.fn.network.kept) 0 l.moment))
+          (depot.tells × g.D.Disk.tells) g.D.Disk.sight faults (map Plays (clock_from (length l.fn.network.kept) 0 l.moment))
           (due_from (length l.fn.network.kept) l.moment l.provider)
           (point_of faults elsewhere [] l.fn.network (sink.held l.fn.out) (g.W.Counted.faults l.fn.out))
           (point_of faults elsewhere [] l.network (sink.held l.out) (g.W.Counted.faults l.out));

@@ -44,12 +44,12 @@ seals_of sealer = hmac_seals sealer.names.items sealer.keys.items
 
 pub returns-in-Err-clause-moves : goal.returns-in-Err-clause-moves
 returns-in-Err-clause-moves g c = λ elsewhere.
-    moves_none g.D.Disk.sight g.D.Disk.tells (world_of seals_of c.args.network)
+    moves_none g.D.Disk.sight g.D.Counted.faults g.D.Disk.tells (world_of seals_of c.args.network)
     (state_in g.D.Counted.faults elsewhere [] c.args.network)
 
 pub returns-in-Err-now-clause-moves : goal.returns-in-Err-now-clause-moves
 returns-in-Err-now-clause-moves g c = λ elsewhere.
-    moves_none g.D.Disk.sight g.D.Disk.tells (world_of seals_of c.args.network)
+    moves_none g.D.Disk.sight g.D.Counted.faults g.D.Disk.tells (world_of seals_of c.args.network)
     (state_in g.D.Counted.faults elsewhere [] c.args.network)
 
 pub returns-clause-moves : goal.returns-clause-moves

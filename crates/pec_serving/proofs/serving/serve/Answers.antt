@@ -11,7 +11,8 @@ use Rattle.pec_playing.specs.declared.stops.Stop.{Stop}
 use Rattle.pec_serving.proofs.EndLemmas.{risen_since, ends_broken, ends_lacking, ends_stopped, ends_unmet, ends_untold, ends_written}
 use Rattle.pec_playing.specs.Points.{state_in}
 use Rattle.pec_serving.proofs.KeepLemmas.{keeps_all, keeps_on}
-use Rattle.pec_serving.proofs.MoveLemmas.{MoveLaws, moves_again, moves_last, moves_stopped, served_in_time}
+use Rattle.pec_serving.proofs.MoveLemmas.{MoveLaws, moves_again, moves_last, moves_stopped, next_moves, part_moves, served_in_time}
+use Rattle.pec_serving.proofs.MoveLemmas.{whole_moves}
 use Rattle.pec_serving.proofs.ServiceLemmas.{CallLaws, ConnectionLaws, all_served, goes_none}
 use Rattle.pec_serving.proofs.serving.serve.Goals as goal
 use Rattle.pec_playing.specs.OfNetworks.{AllStand, world_of}
@@ -22,7 +23,8 @@ seals_of sealer = hmac_seals sealer.names.items sealer.keys.items
 pub loop-served-init : goal.loop-served-init
 loop-served-init g c = record {
   going = λ stand elsewhere.
-      goes_none (world_of seals_of c.args.network) (g.P.Depot.tells × g.D.Disk.tells) c.args.network.kept
+      goes_none (world_of seals_of c.args.network) (g.P.Depot.tells × g.D.Disk.tells) g.D.Disk.sight g.D.Counted.faults
+      c.args.network.kept (state_in g.D.Counted.faults elsewhere [] c.args.network)
       (place_of g.D.Counted.faults elsewhere c.args.network (g.T.Ticks.coming c.args.ticks.now)
       (g.R.Door.requests c.args.door.now) (g.R.Door.replies c.args.door.now)) (g.W.Stream.held c.args.out.now);
   moves = λ stand elsewhere. c.moves_are_joined.ensures.none (world_of seals_of c.args.network)
@@ -59,6 +61,11 @@ returns-in-NoConnection-clause-serves g c = λ stand elsewhere.
     let again = c.next-again.result.0 in
     let here = place_of g.D.Counted.faults elsewhere start (g.T.Ticks.coming c.args.ticks.now)
     (g.R.Door.requests c.args.door.now) (g.R.Door.replies c.args.door.now) in
+    let moves : MoveLaws trade g.D.Disk.tells (g.P.Depot.tells × g.D.Disk.tells) g.D.Disk.sight g.D.Counted.faults = record {
+      on = c.moves_are_joined.ensures.on trade;
+      part = c.moves_are_joined.ensures.part trade;
+      told = c.moves_are_joined.ensures.told trade;
+    } in
     ends_unmet g.D.Disk.sight g.D.Counted.faults g.D.Disk.tells (g.P.Depot.tells × g.D.Disk.tells) seals_of start laws joins elsewhere here now again
     (λ told. (told.1, c.loop-served.invariant.keeps.stands told.1 (stand told)))
     c.loop-served.invariant.keeps (g.T.Ticks.coming c.loop-served.ticks) (g.R.Door.requests c.loop-served.door)
@@ -71,6 +78,9 @@ returns-in-NoConnection-clause-serves g c = λ stand elsewhere.
     (place_of g.D.Counted.faults elsewhere again (g.T.Ticks.coming c.next-again.new.ticks)
     (g.R.Door.requests c.next-again.new.door) (g.R.Door.replies c.next-again.new.door)) came) c.in-NoConnection.is
     (c.next-again.ensures.comes elsewhere))
+    ((next_moves g.D.Disk.sight g.D.Counted.faults g.D.Disk.tells (g.P.Depot.tells × g.D.Disk.tells) seals_of start now again
+    elsewhere moves c.loop-served.invariant.keeps (c.loop-served.invariant.moves stand elsewhere)
+    (c.next-again.ensures.moves elsewhere)).moves)
 
 pub returns-in-NoConnection-clause-keeps : goal.returns-in-NoConnection-clause-keeps
 returns-in-NoConnection-clause-keeps g c =
@@ -105,6 +115,11 @@ returns-in-NoMoment-clause-serves g c = λ stand elsewhere.
     let again = c.next-again.result.0 in
     let here = place_of g.D.Counted.faults elsewhere start (g.T.Ticks.coming c.args.ticks.now)
     (g.R.Door.requests c.args.door.now) (g.R.Door.replies c.args.door.now) in
+    let moves : MoveLaws trade g.D.Disk.tells (g.P.Depot.tells × g.D.Disk.tells) g.D.Disk.sight g.D.Counted.faults = record {
+      on = c.moves_are_joined.ensures.on trade;
+      part = c.moves_are_joined.ensures.part trade;
+      told = c.moves_are_joined.ensures.told trade;
+    } in
     ends_untold g.D.Disk.sight g.D.Counted.faults g.D.Disk.tells (g.P.Depot.tells × g.D.Disk.tells) seals_of start laws joins elsewhere here now again
     (λ told. (told.1, c.loop-served.invariant.keeps.stands told.1 (stand told)))
     c.loop-served.invariant.keeps (g.T.Ticks.coming c.loop-served.ticks) (g.R.Door.requests c.loop-served.door)
@@ -117,6 +132,9 @@ returns-in-NoMoment-clause-serves g c = λ stand elsewhere.
     (place_of g.D.Counted.faults elsewhere again (g.T.Ticks.coming c.next-again.new.ticks)
     (g.R.Door.requests c.next-again.new.door) (g.R.Door.replies c.next-again.new.door)) came) c.in-NoMoment.is
     (c.next-again.ensures.comes elsewhere))
+    ((next_moves g.D.Disk.sight g.D.Counted.faults g.D.Disk.tells (g.P.Depot.tells × g.D.Disk.tells) seals_of start now again
+    elsewhere moves c.loop-served.invariant.keeps (c.loop-served.invariant.moves stand elsewhere)
+    (c.next-again.ensures.moves elsewhere)).moves)
 
 pub returns-in-NoMoment-clause-keeps : goal.returns-in-NoMoment-clause-keeps
 returns-in-NoMoment-clause-keeps g c =
@@ -151,6 +169,11 @@ returns-in-Err-clause-serves g c = λ stand elsewhere.
     let again = c.next-again.result.0 in
     let here = place_of g.D.Counted.faults elsewhere start (g.T.Ticks.coming c.args.ticks.now)
     (g.R.Door.requests c.args.door.now) (g.R.Door.replies c.args.door.now) in
+    let moves : MoveLaws trade g.D.Disk.tells (g.P.Depot.tells × g.D.Disk.tells) g.D.Disk.sight g.D.Counted.faults = record {
+      on = c.moves_are_joined.ensures.on trade;
+      part = c.moves_are_joined.ensures.part trade;
+      told = c.moves_are_joined.ensures.told trade;
+    } in
     ends_broken g.D.Disk.sight g.D.Counted.faults g.D.Disk.tells (g.P.Depot.tells × g.D.Disk.tells) seals_of start laws joins elsewhere here now again
     (λ told. (told.1, c.loop-served.invariant.keeps.stands told.1 (stand told)))
     c.loop-served.invariant.keeps (g.T.Ticks.coming c.loop-served.ticks) (g.R.Door.requests c.loop-served.door)
@@ -165,6 +188,9 @@ returns-in-Err-clause-serves g c = λ stand elsewhere.
     (g.R.Door.requests c.next-again.new.door) (g.R.Door.replies c.next-again.new.door)) came) c.in-Served.is
     (c.next-again.ensures.comes elsewhere))
     (g.W.Stream.held c.write_outcome.new.out) c.in-Err.ensures.err
+    ((next_moves g.D.Disk.sight g.D.Counted.faults g.D.Disk.tells (g.P.Depot.tells × g.D.Disk.tells) seals_of start now again
+    elsewhere moves c.loop-served.invariant.keeps (c.loop-served.invariant.moves stand elsewhere)
+    (c.next-again.ensures.moves elsewhere)).moves)
 
 pub returns-in-Err-clause-keeps : goal.returns-in-Err-clause-keeps
 returns-in-Err-clause-keeps g c =
@@ -193,6 +219,20 @@ returns-in-Err-WriteFault-clause-serves g c = λ stand elsewhere.
     let again = c.next-again.result.0 in
     let here = place_of g.D.Counted.faults elsewhere start (g.T.Ticks.coming c.args.ticks.now)
     (g.R.Door.requests c.args.door.now) (g.R.Door.replies c.args.door.now) in
+    let moves : MoveLaws trade g.D.Disk.tells (g.P.Depot.tells × g.D.Disk.tells) g.D.Disk.sight g.D.Counted.faults = record {
+      on = c.moves_are_joined.ensures.on trade;
+      part = c.moves_are_joined.ensures.part trade;
+      told = c.moves_are_joined.ensures.told trade;
+    } in
+    let in_time = served_in_time (world_of seals_of now) (g.D.Disk.tells × AllStand g.D.Disk.sight now.providers) now.kept
+    (place_of g.D.Counted.faults elsewhere now (g.T.Ticks.coming c.loop-served.ticks) (g.R.Door.requests c.loop-served.door)
+    (g.R.Door.replies c.loop-served.door))
+    (place_of g.D.Counted.faults elsewhere again (g.T.Ticks.coming c.next-again.new.ticks)
+    (g.R.Door.requests c.next-again.new.door) (g.R.Door.replies c.next-again.new.door)) c.in-Served.moment c.in-Served.told
+    c.next-again.result.1 c.in-Served.is (c.next-again.ensures.comes elsewhere) in
+    let may = c.acts_are_calls.ensures.may_come (world_of seals_of again) (length again.kept) 0 c.in-Served.moment in_time in
+    let keeps_again = keeps_on g.D.Disk.sight g.D.Counted.faults g.D.Disk.tells c.args.network now again
+    c.loop-served.invariant.keeps c.next-again.ensures.keeps in
     ends_stopped g.D.Disk.sight g.D.Counted.faults g.D.Disk.tells (g.P.Depot.tells × g.D.Disk.tells) seals_of start laws joins elsewhere here now again
     (λ told. (told.1, c.loop-served.invariant.keeps.stands told.1 (stand told)))
     c.loop-served.invariant.keeps (g.T.Ticks.coming c.loop-served.ticks) (g.R.Door.requests c.loop-served.door)
@@ -211,11 +251,15 @@ returns-in-Err-WriteFault-clause-serves g c = λ stand elsewhere.
     (g.W.Stream.held c.play_clock.new.out) (g.W.Counted.faults c.write_outcome.new.out)
     (g.W.Counted.faults c.play_clock.new.out) c.in_default.ensures.ok
     (subst (λ (stop : Stop). ClockWent (world_of seals_of again) (providers_of again.kept)
-    (g.P.Depot.tells × g.D.Disk.tells) g.D.Disk.sight (clock_from (length again.kept) 0 c.in-Served.moment)
+    (g.P.Depot.tells × g.D.Disk.tells) g.D.Disk.sight g.D.Counted.faults (clock_from (length again.kept) 0 c.in-Served.moment)
     (point_of g.D.Counted.faults elsewhere [] again (g.W.Stream.held c.write_outcome.new.out) (g.W.Counted.faults c.write_outcome.new.out))
     (point_of g.D.Counted.faults elsewhere [] c.play_clock.new.network (g.W.Stream.held c.play_clock.new.out)
     (g.W.Counted.faults c.play_clock.new.out)) (stop_in {T = Unit {0}} (Err stop))) c.in-Err-WriteFault.field-0-is (c.in-Err-WriteFault.ensures.clock
     (λ told. c.next-again.ensures.keeps.stands told.1 (c.loop-served.invariant.keeps.stands told.1 (stand told))) elsewhere))
+    (part_moves g.D.Disk.sight g.D.Counted.faults g.D.Disk.tells (g.P.Depot.tells × g.D.Disk.tells) seals_of start now again
+    elsewhere moves c.loop-served.invariant.keeps (c.loop-served.invariant.moves stand elsewhere)
+    (c.next-again.ensures.moves elsewhere) keeps_again c.play_clock.new.network ((c.in-Err-WriteFault.ensures.clock
+    (λ told. c.next-again.ensures.keeps.stands told.1 (c.loop-served.invariant.keeps.stands told.1 (stand told))) elsewhere).moves may))
 
 pub returns-in-Err-WriteFault-clause-keeps : goal.returns-in-Err-WriteFault-clause-keeps
 returns-in-Err-WriteFault-clause-keeps g c =
@@ -245,6 +289,20 @@ returns-in-Err-NoMemory-clause-serves g c = λ stand elsewhere.
     let again = c.next-again.result.0 in
     let here = place_of g.D.Counted.faults elsewhere start (g.T.Ticks.coming c.args.ticks.now)
     (g.R.Door.requests c.args.door.now) (g.R.Door.replies c.args.door.now) in
+    let moves : MoveLaws trade g.D.Disk.tells (g.P.Depot.tells × g.D.Disk.tells) g.D.Disk.sight g.D.Counted.faults = record {
+      on = c.moves_are_joined.ensures.on trade;
+      part = c.moves_are_joined.ensures.part trade;
+      told = c.moves_are_joined.ensures.told trade;
+    } in
+    let in_time = served_in_time (world_of seals_of now) (g.D.Disk.tells × AllStand g.D.Disk.sight now.providers) now.kept
+    (place_of g.D.Counted.faults elsewhere now (g.T.Ticks.coming c.loop-served.ticks) (g.R.Door.requests c.loop-served.door)
+    (g.R.Door.replies c.loop-served.door))
+    (place_of g.D.Counted.faults elsewhere again (g.T.Ticks.coming c.next-again.new.ticks)
+    (g.R.Door.requests c.next-again.new.door) (g.R.Door.replies c.next-again.new.door)) c.in-Served.moment c.in-Served.told
+    c.next-again.result.1 c.in-Served.is (c.next-again.ensures.comes elsewhere) in
+    let may = c.acts_are_calls.ensures.may_come (world_of seals_of again) (length again.kept) 0 c.in-Served.moment in_time in
+    let keeps_again = keeps_on g.D.Disk.sight g.D.Counted.faults g.D.Disk.tells c.args.network now again
+    c.loop-served.invariant.keeps c.next-again.ensures.keeps in
     ends_lacking g.D.Disk.sight g.D.Counted.faults g.D.Disk.tells (g.P.Depot.tells × g.D.Disk.tells) seals_of start laws joins elsewhere here now again
     (λ told. (told.1, c.loop-served.invariant.keeps.stands told.1 (stand told)))
     c.loop-served.invariant.keeps (g.T.Ticks.coming c.loop-served.ticks) (g.R.Door.requests c.loop-served.door)
@@ -263,11 +321,15 @@ returns-in-Err-NoMemory-clause-serves g c = λ stand elsewhere.
     (g.W.Stream.held c.play_clock.new.out) (g.W.Counted.faults c.write_outcome.new.out)
     (g.W.Counted.faults c.play_clock.new.out) c.in_default.ensures.ok
     (subst (λ (stop : Stop). ClockWent (world_of seals_of again) (providers_of again.kept)
-    (g.P.Depot.tells × g.D.Disk.tells) g.D.Disk.sight (clock_from (length again.kept) 0 c.in-Served.moment)
+    (g.P.Depot.tells × g.D.Disk.tells) g.D.Disk.sight g.D.Counted.faults (clock_from (length again.kept) 0 c.in-Served.moment)
     (point_of g.D.Counted.faults elsewhere [] again (g.W.Stream.held c.write_outcome.new.out) (g.W.Counted.faults c.write_outcome.new.out))
     (point_of g.D.Counted.faults elsewhere [] c.play_clock.new.network (g.W.Stream.held c.play_clock.new.out)
     (g.W.Counted.faults c.play_clock.new.out)) (stop_in {T = Unit {0}} (Err stop))) c.in-Err-NoMemory.field-0-is (c.in-Err-NoMemory.ensures.clock
     (λ told. c.next-again.ensures.keeps.stands told.1 (c.loop-served.invariant.keeps.stands told.1 (stand told))) elsewhere))
+    (part_moves g.D.Disk.sight g.D.Counted.faults g.D.Disk.tells (g.P.Depot.tells × g.D.Disk.tells) seals_of start now again
+    elsewhere moves c.loop-served.invariant.keeps (c.loop-served.invariant.moves stand elsewhere)
+    (c.next-again.ensures.moves elsewhere) keeps_again c.play_clock.new.network ((c.in-Err-NoMemory.ensures.clock
+    (λ told. c.next-again.ensures.keeps.stands told.1 (c.loop-served.invariant.keeps.stands told.1 (stand told))) elsewhere).moves may))
 
 pub returns-in-Err-NoMemory-clause-keeps : goal.returns-in-Err-NoMemory-clause-keeps
 returns-in-Err-NoMemory-clause-keeps g c =
@@ -301,6 +363,20 @@ loop-served-preserved g c =
           let again = c.next-again.result.0 in
           let here = place_of g.D.Counted.faults elsewhere start (g.T.Ticks.coming c.args.ticks.now)
           (g.R.Door.requests c.args.door.now) (g.R.Door.replies c.args.door.now) in
+          let moves : MoveLaws trade g.D.Disk.tells (g.P.Depot.tells × g.D.Disk.tells) g.D.Disk.sight g.D.Counted.faults = record {
+            on = c.moves_are_joined.ensures.on trade;
+            part = c.moves_are_joined.ensures.part trade;
+            told = c.moves_are_joined.ensures.told trade;
+          } in
+          let in_time = served_in_time (world_of seals_of now) (g.D.Disk.tells × AllStand g.D.Disk.sight now.providers) now.kept
+          (place_of g.D.Counted.faults elsewhere now (g.T.Ticks.coming c.loop-served.ticks) (g.R.Door.requests c.loop-served.door)
+          (g.R.Door.replies c.loop-served.door))
+          (place_of g.D.Counted.faults elsewhere again (g.T.Ticks.coming c.next-again.new.ticks)
+          (g.R.Door.requests c.next-again.new.door) (g.R.Door.replies c.next-again.new.door)) c.in-Served.moment c.in-Served.told
+          c.next-again.result.1 c.in-Served.is (c.next-again.ensures.comes elsewhere) in
+          let may = c.acts_are_calls.ensures.may_come (world_of seals_of again) (length again.kept) 0 c.in-Served.moment in_time in
+          let keeps_next = keeps_on g.D.Disk.sight g.D.Counted.faults g.D.Disk.tells c.args.network now again
+          c.loop-served.invariant.keeps c.next-again.ensures.keeps in
           ends_written g.D.Disk.sight g.D.Counted.faults g.D.Disk.tells (g.P.Depot.tells × g.D.Disk.tells) seals_of start laws joins elsewhere here now again
           (λ told. (told.1, c.loop-served.invariant.keeps.stands told.1 (stand told)))
           c.loop-served.invariant.keeps (g.T.Ticks.coming c.loop-served.ticks) (g.R.Door.requests c.loop-served.door)
@@ -318,11 +394,16 @@ loop-served-preserved g c =
           c.loop-served.invariant.keeps c.next-again.ensures.keeps) c.play_clock.new.network (g.W.Stream.held c.write_outcome.new.out)
           (g.W.Stream.held c.play_clock.new.out) (g.W.Counted.faults c.write_outcome.new.out)
           (g.W.Counted.faults c.play_clock.new.out) c.in_default.ensures.ok (c.in-Ok.ensures.clock
-          (λ told. c.next-again.ensures.keeps.stands told.1 (c.loop-served.invariant.keeps.stands told.1 (stand told))) elsewhere);
+          (λ told. c.next-again.ensures.keeps.stands told.1 (c.loop-served.invariant.keeps.stands told.1 (stand told))) elsewhere)
+          (whole_moves g.D.Disk.sight g.D.Counted.faults g.D.Disk.tells (g.P.Depot.tells × g.D.Disk.tells) seals_of start now again
+          elsewhere moves c.loop-served.invariant.keeps (c.loop-served.invariant.moves stand elsewhere)
+          (c.next-again.ensures.moves elsewhere) keeps_next c.play_clock.new.network ((c.in-Ok.ensures.clock
+          (λ told. c.next-again.ensures.keeps.stands told.1 (c.loop-served.invariant.keeps.stands told.1 (stand told)))
+          elsewhere).moves_on may refl));
       moves = λ stand elsewhere.
           let tells = g.P.Depot.tells × g.D.Disk.tells in
           let trade = world_of seals_of c.args.network in
-          let laws : MoveLaws trade g.D.Disk.tells tells g.D.Disk.sight = record {
+          let laws : MoveLaws trade g.D.Disk.tells tells g.D.Disk.sight g.D.Counted.faults = record {
             on = c.moves_are_joined.ensures.on trade;
             part = c.moves_are_joined.ensures.part trade;
             told = c.moves_are_joined.ensures.told trade;
@@ -376,14 +457,17 @@ returns-clause-serves g c = λ stand elsewhere.
     (g.R.Door.requests c.loop-served.door) (g.R.Door.replies c.loop-served.door) in
     let all : c.loop-served.served ≡ c.args.wanted =
     omega (arith, c.loop-served-test.false, c.loop-served.auto.served-end) in
-    all_served trade (g.P.Depot.tells × g.D.Disk.tells) start.kept laws joins here there c.loop-served.served (g.W.Stream.held c.args.out.now)
+    let at = state_in g.D.Counted.faults elsewhere [] c.loop-served.network in
+    all_served trade (g.P.Depot.tells × g.D.Disk.tells) g.D.Disk.sight g.D.Counted.faults start.kept laws joins
+    (state_in g.D.Counted.faults elsewhere [] start) at here there c.loop-served.served (g.W.Stream.held c.args.out.now)
     (g.W.Stream.held c.loop-served.out) (c.loop-served.invariant.going stand elsewhere) c.args.wanted all
+    ((c.moves_are_joined.ensures.none trade at).moves)
 
 pub returns-in-NoConnection-clause-moves : goal.returns-in-NoConnection-clause-moves
 returns-in-NoConnection-clause-moves g c = λ stand elsewhere.
     let tells = g.P.Depot.tells × g.D.Disk.tells in
     let trade = world_of seals_of c.args.network in
-    let laws : MoveLaws trade g.D.Disk.tells tells g.D.Disk.sight = record {
+    let laws : MoveLaws trade g.D.Disk.tells tells g.D.Disk.sight g.D.Counted.faults = record {
       on = c.moves_are_joined.ensures.on trade;
       part = c.moves_are_joined.ensures.part trade;
       told = c.moves_are_joined.ensures.told trade;
@@ -396,7 +480,7 @@ pub returns-in-NoMoment-clause-moves : goal.returns-in-NoMoment-clause-moves
 returns-in-NoMoment-clause-moves g c = λ stand elsewhere.
     let tells = g.P.Depot.tells × g.D.Disk.tells in
     let trade = world_of seals_of c.args.network in
-    let laws : MoveLaws trade g.D.Disk.tells tells g.D.Disk.sight = record {
+    let laws : MoveLaws trade g.D.Disk.tells tells g.D.Disk.sight g.D.Counted.faults = record {
       on = c.moves_are_joined.ensures.on trade;
       part = c.moves_are_joined.ensures.part trade;
       told = c.moves_are_joined.ensures.told trade;
@@ -409,7 +493,7 @@ pub returns-in-Err-clause-moves : goal.returns-in-Err-clause-moves
 returns-in-Err-clause-moves g c = λ stand elsewhere.
     let tells = g.P.Depot.tells × g.D.Disk.tells in
     let trade = world_of seals_of c.args.network in
-    let laws : MoveLaws trade g.D.Disk.tells tells g.D.Disk.sight = record {
+    let laws : MoveLaws trade g.D.Disk.tells tells g.D.Disk.sight g.D.Counted.faults = record {
       on = c.moves_are_joined.ensures.on trade;
       part = c.moves_are_joined.ensures.part trade;
       told = c.moves_are_joined.ensures.told trade;
@@ -422,7 +506,7 @@ pub returns-in-Err-WriteFault-clause-moves : goal.returns-in-Err-WriteFault-clau
 returns-in-Err-WriteFault-clause-moves g c = λ stand elsewhere.
     let tells = g.P.Depot.tells × g.D.Disk.tells in
     let trade = world_of seals_of c.args.network in
-    let laws : MoveLaws trade g.D.Disk.tells tells g.D.Disk.sight = record {
+    let laws : MoveLaws trade g.D.Disk.tells tells g.D.Disk.sight g.D.Counted.faults = record {
       on = c.moves_are_joined.ensures.on trade;
       part = c.moves_are_joined.ensures.part trade;
       told = c.moves_are_joined.ensures.told trade;
@@ -447,7 +531,7 @@ pub returns-in-Err-NoMemory-clause-moves : goal.returns-in-Err-NoMemory-clause-m
 returns-in-Err-NoMemory-clause-moves g c = λ stand elsewhere.
     let tells = g.P.Depot.tells × g.D.Disk.tells in
     let trade = world_of seals_of c.args.network in
-    let laws : MoveLaws trade g.D.Disk.tells tells g.D.Disk.sight = record {
+    let laws : MoveLaws trade g.D.Disk.tells tells g.D.Disk.sight g.D.Counted.faults = record {
       on = c.moves_are_joined.ensures.on trade;
       part = c.moves_are_joined.ensures.part trade;
       told = c.moves_are_joined.ensures.told trade;

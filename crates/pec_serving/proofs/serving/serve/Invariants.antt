@@ -14,7 +14,8 @@ abbrev pub invariant-loop-served : goal.invariant-loop-served
 invariant-loop-served g l = record {
   going : (g.P.Depot.tells × g.D.Disk.tells → AllStand g.D.Disk.sight l.fn.network.providers) → (elsewhere : ℕ → ℕ)
       → Going (trade_of l.fn.network.kept (hmac_seals l.fn.network.sealer.names.items l.fn.network.sealer.keys.items))
-      (g.P.Depot.tells × g.D.Disk.tells) l.fn.network.kept
+      (g.P.Depot.tells × g.D.Disk.tells) g.D.Disk.sight g.D.Counted.faults l.fn.network.kept
+      (state_in g.D.Counted.faults elsewhere [] l.fn.network) (state_in g.D.Counted.faults elsewhere [] l.network)
       (place_of g.D.Counted.faults elsewhere l.fn.network (g.T.Ticks.coming l.fn.ticks) (g.R.Door.requests l.fn.door)
       (g.R.Door.replies l.fn.door))
       (place_of g.D.Counted.faults elsewhere l.network (g.T.Ticks.coming l.ticks) (g.R.Door.requests l.door)
@@ -22,7 +23,7 @@ invariant-loop-served g l = record {
       l.served (g.W.Stream.held l.fn.out) (g.W.Stream.held l.out);
   moves : (g.P.Depot.tells × g.D.Disk.tells → AllStand g.D.Disk.sight l.fn.network.providers) → (elsewhere : ℕ → ℕ)
       → MovesOn (trade_of l.fn.network.kept (hmac_seals l.fn.network.sealer.names.items l.fn.network.sealer.keys.items))
-      (g.P.Depot.tells × g.D.Disk.tells) g.D.Disk.sight (state_in g.D.Counted.faults elsewhere [] l.fn.network)
+      (g.P.Depot.tells × g.D.Disk.tells) g.D.Disk.sight g.D.Counted.faults (state_in g.D.Counted.faults elsewhere [] l.fn.network)
       (state_in g.D.Counted.faults elsewhere [] l.network);
   keeps : Keeps g.D.Disk.sight g.D.Counted.faults g.D.Disk.tells l.fn.network l.network;
   home : g.P.Depot.tells → Alike (g.P.Depot.home l.fn.depot) (g.P.Depot.home l.depot);

@@ -23,7 +23,7 @@ returns-in-Ok-Ends-clause-ran g c =
     let before = g.W.Stream.held c.args.out.now in
     let after = g.W.Stream.held c.write_last.new.out in
     let over = rw c.in-Ok-Ends.field-0-is at c.in-Ok-Ends.ensures.read in
-    rw c.status_of.ensures.shown (log_over tells sight (range_shown (c.args.from, c.args.upto))
+    rw c.status_of.ensures.shown (log_over tells sight g.P.D.Counted.faults (range_shown (c.args.from, c.args.upto))
     (result_shown c.write_last.result) (g.S.Stream.left c.args.input.now) before after home home last last
     (never_changed c.write_last.result) (untouched tells sight home)
     (λ trade. had_none tells sight Resume trade home) over.bytes over.input over.end over.stage
@@ -38,7 +38,7 @@ returns-in-Err-clause-ran g c =
     let last = g.P.Depot.last c.args.depot.now in
     let before = g.W.Stream.held c.args.out.now in
     let stop = c.in-Err.stop in
-    rw c.status_of-in-Err.ensures.shown (log_stopped tells sight (range_shown (c.args.from, c.args.upto))
+    rw c.status_of-in-Err.ensures.shown (log_stopped tells sight g.P.D.Counted.faults (range_shown (c.args.from, c.args.upto))
     (stop_shown stop) (g.S.Stream.left c.args.input.now) before before home home last last (never_changed (Err stop))
     (untouched tells sight home) (λ trade. had_none tells sight Resume trade home)
     (halted_told stop c.in-Err.ensures.stops before before [] (sym (followed_by-nil before))))

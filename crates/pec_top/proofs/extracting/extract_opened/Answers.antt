@@ -9,6 +9,7 @@ use Rattle.pec_top.specs.Inputs.{IsWholeTaken}
 use Rattle.pec_top.specs.Shown.{range_shown, result_shown, status_shown}
 use Rattle.pec_top.proofs.ExtractEndLemmas.{log_blames, log_opened, log_unopened, never_changed, refused_go}
 use Rattle.pec_top.proofs.ExtractingLemmas.{all_up, failing_so, fell_so, home_so, opened_so}
+use Rattle.pec_top.proofs.RefusedLemmas.{refused_lines}
 use Rattle.pec_top.proofs.extracting.extract_opened.Goals as goal
 
 pub extract_network-requires-clause-up : goal.extract_network-requires-clause-up
@@ -30,7 +31,7 @@ returns-in-Ok-clause-ran g c = λ unread rest taken.
     let before = g.W.Stream.held c.args.out.now in
     let after = g.W.Stream.held c.extract_network.new.out in
     let range = range_shown (c.args.from, c.args.upto) in
-    log_opened tells g.P.D.Disk.sight range (status_shown c.extract_network.result) unread before after
+    log_opened tells g.P.D.Disk.sight g.P.D.Counted.faults range (status_shown c.extract_network.result) unread before after
     (g.P.Depot.home c.args.depot.now) (g.P.Depot.home c.extract_network.new.depot)
     (g.P.Depot.last c.args.depot.now) (g.P.Depot.last c.extract_network.new.depot)
     here.bytes here.input here.short kept here.reads seals
@@ -84,11 +85,13 @@ pub returns-in-Err-clause-ran : goal.returns-in-Err-clause-ran
 returns-in-Err-clause-ran g c = λ unread rest taken.
     let tells = g.P.Depot.tells × g.P.D.Disk.tells in
     let refused = rw c.new-screens.ensures.items at c.in-Err.ensures.refused in
-    rw c.status_of.ensures.shown (log_unopened tells g.P.D.Disk.sight (range_shown (c.args.from, c.args.upto))
+    rw c.status_of.ensures.shown (log_unopened tells g.P.D.Disk.sight g.P.D.Counted.faults (range_shown (c.args.from, c.args.upto))
     (result_shown c.end_refused.result) unread (g.W.Stream.held c.args.out.now)
     (g.W.Stream.held c.end_refused.new.out) (g.P.Depot.home c.args.depot.now) (g.P.Depot.home c.open.new.depot)
     (g.P.Depot.last c.args.depot.now) (g.P.Depot.last c.open.new.depot) taken.bytes taken.input taken.short
     c.args.directory taken.reads (never_changed c.end_refused.result) c.in-Err.refusal c.end_refused.ensures.told
+    (λ providers holds number next given.
+    refused_lines providers c.in-Err.refusal c.end_refused.result holds number next c.end_refused.ensures.line given)
     refused)
 
 pub returns-in-Err-clause-counts : goal.returns-in-Err-clause-counts

@@ -26,7 +26,7 @@ returns-in_err-directory-clause-served g c =
     let stop = c.in_err-directory.field-0.0 in
     let p = err_from_is_err_and c.from_residual.result c.from_residual.ensures.1 in
     rw (p.1, p.2) (halted_through asked (stop_shown stop) (g.S.Stream.left c.args.input.now) before before tells
-    g.P.D.Disk.sight home home here here last last (untouched tells g.P.D.Disk.sight home) refl
+    g.P.D.Disk.sight g.P.D.Counted.faults home home here here last last (untouched tells g.P.D.Disk.sight home) refl
     (λ trade. had_none tells g.P.D.Disk.sight Resume trade home)
     (halted_told stop c.in_err-directory.ensures.stops before before [] (sym (followed_by-nil before))))
 
@@ -50,7 +50,7 @@ returns-in-Ends-clause-served g c =
     } in
     let over = rw c.in-Ends.is at c.in_ok-directory.ensures.read in
     over_through asked (result_shown c.write_last.result) (g.S.Stream.left c.args.input.now) before after tells
-    g.P.D.Disk.sight home home here here last last (untouched tells g.P.D.Disk.sight home) refl
+    g.P.D.Disk.sight g.P.D.Counted.faults home home here here last last (untouched tells g.P.D.Disk.sight home) refl
     (λ trade. had_none tells g.P.D.Disk.sight Resume trade home) over.bytes over.end over.stage over.input
     (last_told over.end c.in-Ends.end over.shown before after _ (c.deref.ensures.value ∙ over.text_is [])
     c.write_last.result c.write_last.ensures.ok c.write_last.ensures.err c.write_last.ensures.stop)

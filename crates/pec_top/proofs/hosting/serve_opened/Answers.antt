@@ -19,7 +19,8 @@ use Rattle.pec_top.specs.Shown.{result_shown}
 use Rattle.pec_top.proofs.CountLemmas.{closed_so, counts_later}
 use Rattle.pec_top.proofs.HostingLemmas.{blames_ended, refused_counts, told_as}
 use Rattle.pec_top.proofs.ServedLemmas.{served_through, unopened_through}
-use Rattle.pec_top.proofs.ThroughLemmas.{all_kept, all_seen, all_stand}
+use Rattle.pec_top.proofs.RefusedLemmas.{refused_lines}
+use Rattle.pec_top.proofs.ThroughLemmas.{all_counted, all_kept, all_seen, all_stand}
 use Rattle.pec_top.proofs.WholeLemmas.{all_kept_so, none_gone}
 use Rattle.pec_top.proofs.hosting.serve_opened.Goals as goal
 
@@ -77,11 +78,12 @@ returns-in-Ok-clause-served g c = λ unread rest whole.
     all_kept g.P.Depot.tells g.P.D.Disk.tells sight served c.a_network_is_whole-in-Ok.ensures
     (g.P.Depot.home c.serve-network.new.depot) new c.close.ensures.kept told.0 k
     (let same = ap (λ (k : List Kept). length k) keeps.directory in omega (arith, many, same, within)) in
-    served_through asked (result_shown c.ended.result) unread before after tells sight old new
+    served_through asked (result_shown c.ended.result) unread before after tells sight faults old new
     here there from upto taken.bytes taken.short setting taken.reads opened.setting taken.input opened.form course chosen
     (record {
       opening = opened.opening;
       looked_at = tt;
+      writes = λ failed. tt;
       goes_on = record {
         counts = counts;
         sooner = opened.counts;
@@ -102,6 +104,7 @@ returns-in-Ok-clause-served g c = λ unread rest whole.
     })
     refl
     (record {
+      through = record {
       first = state_in faults mid_last [] network;
       last = state_in faults mid_last [] served;
       begins = opened.begins;
@@ -109,8 +112,13 @@ returns-in-Ok-clause-served g c = λ unread rest whole.
       stand = λ told. all_stand g.P.Depot.tells g.P.D.Disk.tells sight network c.a_network_is_whole.ensures
           (opened.stands told);
       had = opened.had;
+      begun = all_counted g.P.Depot.tells g.P.D.Disk.tells sight network c.a_network_is_whole.ensures faults mid_last [];
       moves = c.serve-network.ensures.moves opened.stands mid_last;
       kept = at_home;
+      elsewhere = λ told k past. kept_so.elsewhere told k (omega (arith, many, past))
+          ∙ opened.apart told.0 k (omega (arith, many, past));
+      };
+      moved = serves.moved;
     })
 
 pub returns-in-Ok-clause-counts : goal.returns-in-Ok-clause-counts
@@ -153,9 +161,9 @@ returns-in-Ok-clause-home g c = λ told k some.
     elim (cases_lt k (length served.kept)) [
       | inl within ↦ none_gone g.P.Depot.tells g.P.D.Disk.tells g.P.D.Disk.sight served c.a_network_is_whole-in-Ok.ensures
           (g.P.Depot.home c.serve-network.new.depot) (g.P.Depot.home c.close.new.depot) c.close.ensures.kept told k within
-      | inr past ↦ λ gone. c.in-Ok.ensures.opened.apart told k (omega (arith, count, first, many, past)) some
-          (sym (c.serve-network.ensures.home told k)
-          ∙ (sym ((c.close.ensures.kept told).elsewhere k (omega (arith, count, past))) ∙ gone))
+      | inr past ↦ λ gone. some (sym (c.in-Ok.ensures.opened.apart told k (omega (arith, count, first, many, past)))
+          ∙ (sym (c.serve-network.ensures.home told k)
+          ∙ (sym ((c.close.ensures.kept told).elsewhere k (omega (arith, count, past))) ∙ gone)))
     ]
 
 pub returns-in-Err-clause-served : goal.returns-in-Err-clause-served
@@ -169,10 +177,13 @@ returns-in-Err-clause-served g c = λ unread rest taken.
       replies = g.R.Door.replies c.args.door.now;
     } in
     unopened_through asked (result_shown c.end_refused.result) unread (g.W.Stream.held c.args.out.now)
-    (g.W.Stream.held c.end_refused.new.out) tells sight (g.P.Depot.home c.args.depot.now)
+    (g.W.Stream.held c.end_refused.new.out) tells sight g.P.D.Counted.faults (g.P.Depot.home c.args.depot.now)
     (g.P.Depot.home c.open.new.depot) here (g.P.Depot.last c.args.depot.now)
     (g.P.Depot.last c.open.new.depot) taken.bytes taken.short c.args.directory taken.reads taken.input c.in-Err.refusal
-    c.end_refused.ensures.told c.in-Err.ensures.refused
+    c.end_refused.ensures.told
+    (λ providers holds number next given.
+    refused_lines providers c.in-Err.refusal c.end_refused.result holds number next c.end_refused.ensures.line given)
+    c.in-Err.ensures.refused
 
 pub returns-in-Err-clause-counts : goal.returns-in-Err-clause-counts
 returns-in-Err-clause-counts g c =

@@ -27,7 +27,7 @@ returns-in_err-input-clause-loaded g c = λ input.
     } in
     let p = err_from_is_err_and c.from_residual.result c.from_residual.ensures.1 in
     rw (p.1, p.2) (unmade c.args.count (map g.J.Judge.patterns c.args.screens.items) (g.W.Stream.held c.args.out.now)
-    tells g.P.D.Disk.sight home counts)
+    tells g.P.D.Disk.sight g.P.D.Counted.faults home counts)
 
 pub returns-clause-loaded : goal.returns-clause-loaded
 unfolding counted_through whole_through ran_whole
@@ -36,6 +36,7 @@ returns-clause-loaded g c = λ input.
     let screens = map g.J.Judge.patterns c.args.screens.items in
     let tells = g.P.Depot.tells × g.P.D.Disk.tells in
     let sight = g.P.D.Disk.sight in
+    let faults = g.P.D.Counted.faults in
     let run = c.run_form-run.result in
     let result = c.end_load.result in
     let lines = c.run_form-run.new.out.bytes in
@@ -58,7 +59,7 @@ returns-clause-loaded g c = λ input.
     let sink = as_u64 c.run_form-run.new.out.calls.faults in
     let of = c.run_form-run.ensures in
     let ends = c.end_load.ensures in
-    let so : RanReporting tells sight (load_asked screens) (result_shown run) (Some (load_input count)) (Some []) (Some lines)
+    let so : RanReporting tells sight faults (load_asked screens) (result_shown run) (Some (load_input count)) (Some []) (Some lines)
     old_home new_home old.disks new.disks reports.Asked c.run_form-run.new.report =
     rw (c.new-source.ensures, c.new-lines.ensures, c.in_ok-input.ensures, c.new-spares.ensures.items) at of.ran (codes "run" ∷ []) refl in
     let devices : BlamesDevices run 0 source 0 sink = rw (c.new-source.ensures, c.new-lines.ensures) at of.blame in
@@ -70,10 +71,10 @@ returns-clause-loaded g c = λ input.
     } in
     let blamed : BlamesDevices result old.source new.source old.sink new.sink =
     (λ failed. absurd (ends.read_fault failed), (ends.write_fault, (fell.source, fell.sink))) in
-    let ran = (counted_through run (load_asked screens) (Some (load_input count)) (Some []) (Some lines) tells sight old_home
+    let ran = (counted_through run (load_asked screens) (Some (load_input count)) (Some []) (Some lines) tells sight faults old_home
     new_home (counts_with old 0 0) (counts_with new source sink) devices of.disks.0 of.disks.1 of.disks.2 so.ran).ran in
     loaded_so count screens run result lines (g.W.Stream.held c.args.out.now) (g.W.Stream.held c.end_load.new.out) tells
-    sight old_home new_home old new source sink c.run_form-run.new.report devices of.disks.0 of.disks.1 of.disks.2 so
+    sight faults old_home new_home old new source sink c.run_form-run.new.report devices of.disks.0 of.disks.1 of.disks.2 so
     (c.a_load_is_played_as_a_run.ensures.stays screens count (result_shown run) (Some []) (Some lines) c.args.depot.now left
     (counts_with old 0 0) (counts_with new source sink) c.requires ran)
     (rw c.bytes.ensures at ends.told)

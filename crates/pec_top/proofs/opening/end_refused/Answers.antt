@@ -18,6 +18,12 @@ returns-in-NotEmpty-clause-told g c = λ providers finish given.
     (told_last (ends.NotEmpty is.0) lasts.NotEmpty refl before after _ _ (c.deref.ensures.value ∙ is.2) run
     c.write_last.ensures.ok c.write_last.ensures.err c.write_last.ensures.stop)
 
+pub returns-in-NotEmpty-clause-line : goal.returns-in-NotEmpty-clause-line
+returns-in-NotEmpty-clause-line g c = λ failed. rw c.in-NotEmpty.is tt
+
+pub returns-in-NotFit-clause-line : goal.returns-in-NotFit-clause-line
+returns-in-NotFit-clause-line g c = λ failed. rw c.in-NotFit.is tt
+
 pub returns-in-NotFit-clause-told : goal.returns-in-NotFit-clause-told
 returns-in-NotFit-clause-told g c = λ providers finish given.
     let is = rw c.in-NotFit.is at given in

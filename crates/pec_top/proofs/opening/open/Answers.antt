@@ -86,7 +86,10 @@ returns-in-Ok-begin-clause-opened g c =
     opened_so tells reads sight seals_of g.P.D.Counted.faults
     (map g.J.Judge.patterns c.args.screens.items) how form home looked (g.P.Depot.home c.begin.new.depot)
     (g.P.Depot.last c.args.depot.now) (g.P.Depot.last c.form_of.new.depot) (g.P.Depot.last c.begin.new.depot) network
-    of_its_own c.form_of.ensures.rest c.a_disk_is_so.ensures.reads c.a_disk_is_so.ensures.counts c.in-Ok-begin.ensures.rests
+    of_its_own c.form_of.ensures.rest
+    (λ told k past. c.form_of.ensures.elsewhere told k
+    (let n = c.count-count.ensures.count in let e = ap (λ (k : List Kept). length k) same.0 in omega (arith, n, e, past)))
+    c.a_disk_is_so.ensures.reads c.a_disk_is_so.ensures.counts c.in-Ok-begin.ensures.rests
     (λ told. c.in-Ok-begin.ensures.out told) c.in-Ok-begin.ensures.counts c.in-Ok-begin.ensures.last c.form_of.ensures.last
 
 pub returns-in-Ok-begin-clause-last : goal.returns-in-Ok-begin-clause-last

@@ -26,9 +26,9 @@ returns-in_err-directory-clause-ran g c = λ words is.
     let before = g.W.Stream.held c.args.out.now in
     let stop = c.in_err-directory.field-0.0 in
     let p = err_from_is_err_and c.from_residual.result c.from_residual.ensures.1 in
-    rw (p.1, p.2) (unreported tells g.P.D.Disk.sight asked (stop_shown stop) (g.S.Stream.left c.args.input.now) before before
+    rw (p.1, p.2) (unreported tells g.P.D.Disk.sight g.P.D.Counted.faults asked (stop_shown stop) (g.S.Stream.left c.args.input.now) before before
     home home last last c.args.report.now
-    (halted_through asked (g.S.Stream.left c.args.input.now) before before tells g.P.D.Disk.sight home home
+    (halted_through asked (g.S.Stream.left c.args.input.now) before before tells g.P.D.Disk.sight g.P.D.Counted.faults home home
     last last (untouched tells g.P.D.Disk.sight home)
     (λ trade. had_none tells g.P.D.Disk.sight Resume trade home) (form_shown c.args.form) (stop_shown stop) is
     (halted_told stop c.in_err-directory.ensures.stops before before [] (sym (followed_by-nil before)))))
@@ -58,9 +58,9 @@ returns-in-Ends-clause-ran g c = λ words is.
     let before = g.W.Stream.held c.args.out.now in
     let after = g.W.Stream.held c.write_last.new.out in
     let over = rw (c.in-Ends.is, c.new-buffer.ensures, behind_nothing unread) at c.in_ok-directory.ensures.read in
-    unreported tells g.P.D.Disk.sight asked (result_shown c.write_last.result) unread before after home home last last
+    unreported tells g.P.D.Disk.sight g.P.D.Counted.faults asked (result_shown c.write_last.result) unread before after home home last last
     c.args.report.now
-    (over_through asked unread before after tells g.P.D.Disk.sight home home last last (untouched tells g.P.D.Disk.sight home)
+    (over_through asked unread before after tells g.P.D.Disk.sight g.P.D.Counted.faults home home last last (untouched tells g.P.D.Disk.sight home)
     (λ trade. had_none tells g.P.D.Disk.sight Resume trade home) over.parts false over.end (result_shown c.write_last.result) (over.stage asked no_hands (form_shown c.args.form) is)
     over.input (last_told over.end c.in-Ends.end over.shown before after _ (c.deref.ensures.value ∙ over.text_is [])
     c.write_last.result c.write_last.ensures.ok c.write_last.ensures.err

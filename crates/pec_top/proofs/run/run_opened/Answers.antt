@@ -13,9 +13,9 @@ use Rattle.pec_top.specs.Scripts.{AreKept}
 use Rattle.pec_top.specs.Shown.{result_shown}
 use Rattle.pec_top.proofs.CountLemmas.{closed_so, counts_later}
 use Rattle.pec_top.proofs.HostingLemmas.{refused_devices, refused_start}
-use Rattle.pec_top.proofs.RefusedLemmas.{ran_unopened}
+use Rattle.pec_top.proofs.RefusedLemmas.{ran_unopened, refused_lines}
 use Rattle.pec_top.proofs.ReportLemmas.{script_told, unreported}
-use Rattle.pec_top.proofs.ThroughLemmas.{all_kept, all_seen, all_stand}
+use Rattle.pec_top.proofs.ThroughLemmas.{all_counted, all_kept, all_seen, all_stand}
 use Rattle.pec_top.proofs.WholeLemmas.{all_kept_so, none_gone}
 use Rattle.pec_top.proofs.run.run_opened.Goals as goal
 
@@ -56,7 +56,7 @@ returns-in-Ok-clause-ran g c = λ words unread is taken.
     let many = length-map kept (λ (one : Kept). one.provider) in
     let same = ap (λ (k : List Kept). length k) keeps.directory in
     script_told asked opened.form (is ∙ ap (λ (f : runs.Form). Some f) (sym opened.is_form)) here.bytes here.short
-    setting here.reads opened.setting tells sight old new (g.P.Depot.last c.args.depot.now)
+    setting here.reads opened.setting tells sight faults old new (g.P.Depot.last c.args.depot.now)
     (g.P.Depot.last c.close.new.depot) (journals_had network.providers) (result_shown c.play_script-result.result) unread
     (behind c.args.buffer.now (g.S.Stream.left c.args.source.now)) point there opened.begins refl
     opened.counts
@@ -64,10 +64,13 @@ returns-in-Ok-clause-ran g c = λ words unread is taken.
     (c.play_script-result.ensures.read opened.stands mid_last)
     (λ left is_left. opened.leaves (sites played) left new is_left kept_so)
     (all_seen g.P.Depot.tells g.P.D.Disk.tells sight network c.a_network_is_whole.ensures)
+    (all_counted g.P.Depot.tells g.P.D.Disk.tells sight network c.a_network_is_whole.ensures faults mid_last asked.spares)
     (λ told. all_stand g.P.Depot.tells g.P.D.Disk.tells sight network c.a_network_is_whole.ensures (opened.stands told))
     opened.had
     (λ told k within. all_kept g.P.Depot.tells g.P.D.Disk.tells sight played c.a_network_is_whole-in-Ok.ensures late new
-    c.close.ensures.kept told.0 k (omega (arith, many, same, within))) c.args.report.now c.of.result
+    c.close.ensures.kept told.0 k (omega (arith, many, same, within)))
+    (λ told k past. kept_so.elsewhere told k (omega (arith, many, past))
+    ∙ opened.apart told.0 k (omega (arith, many, past))) c.args.report.now c.of.result
     (rw (keeps.directory, keeps.seals) at c.of.ensures)
 
 pub returns-in-Ok-clause-home : goal.returns-in-Ok-clause-home
@@ -81,9 +84,9 @@ returns-in-Ok-clause-home g c = λ told k some.
           c.a_network_is_whole-in-Ok.ensures
           (g.P.Depot.home c.play_script-result.new.depot) (g.P.Depot.home c.close.new.depot) c.close.ensures.kept told
           k within
-      | inr past ↦ λ gone. c.in-Ok.ensures.opened.apart told k (omega (arith, count, first, many, past)) some
-          (sym (c.play_script-result.ensures.home told k)
-          ∙ (sym ((c.close.ensures.kept told).elsewhere k (omega (arith, count, past))) ∙ gone))
+      | inr past ↦ λ gone. some (sym (c.in-Ok.ensures.opened.apart told k (omega (arith, count, first, many, past)))
+          ∙ (sym (c.play_script-result.ensures.home told k)
+          ∙ (sym ((c.close.ensures.kept told).elsewhere k (omega (arith, count, past))) ∙ gone)))
     ]
 
 pub returns-in-Ok-clause-disks : goal.returns-in-Ok-clause-disks
@@ -109,14 +112,17 @@ returns-in-Err-clause-ran g c = λ words unread is taken.
     } in
     let tells = g.P.Depot.tells × g.P.D.Disk.tells in
     let sight = g.P.D.Disk.sight in
-    unreported tells sight asked (result_shown c.end_refused.result) unread (g.W.Stream.held c.args.out.now)
+    let faults = g.P.D.Counted.faults in
+    unreported tells sight faults asked (result_shown c.end_refused.result) unread (g.W.Stream.held c.args.out.now)
     (g.W.Stream.held c.end_refused.new.out) (g.P.Depot.home c.args.depot.now) (g.P.Depot.home c.open.new.depot)
     (g.P.Depot.last c.args.depot.now) (g.P.Depot.last c.open.new.depot) c.args.report.now
     (ran_unopened asked c.args.form is taken.bytes taken.short c.args.directory taken.reads c.in-Err.refusal
     (result_shown c.end_refused.result) unread (behind c.args.buffer.now (g.S.Stream.left c.args.source.now))
-    (g.W.Stream.held c.args.out.now) (g.W.Stream.held c.end_refused.new.out) tells sight
+    (g.W.Stream.held c.args.out.now) (g.W.Stream.held c.end_refused.new.out) tells sight faults
     (g.P.Depot.home c.args.depot.now) (g.P.Depot.home c.open.new.depot)
     (g.P.Depot.last c.args.depot.now) (g.P.Depot.last c.open.new.depot) taken.parts c.end_refused.ensures.told
+    (λ providers holds number next given.
+    refused_lines providers c.in-Err.refusal c.end_refused.result holds number next c.end_refused.ensures.line given)
     c.in-Err.ensures.refused)
 
 pub returns-in-Err-clause-blame : goal.returns-in-Err-clause-blame

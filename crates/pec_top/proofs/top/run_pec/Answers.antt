@@ -51,11 +51,11 @@ returns-in-Play-clause-ran g c =
     let form = form_shown c.in-Play.form in
     let of = c.run_form.ensures in
     let ran = of.ran words (form_played words form c.in-Play.ensures.shown) in
-    let so = counted_through run asked unread before after tells g.P.D.Disk.sight old_home new_home old new
+    let so = counted_through run asked unread before after tells g.P.D.Disk.sight g.P.D.Counted.faults old_home new_home old new
     of.blame of.disks.0 of.disks.1 of.disks.2 ran.ran in
     record {
       is_run = rw (← c.in-Play.ensures.shown)
-          (subst (λ (s : Status). RanThrough tells g.P.D.Disk.sight asked s unread before after old_home new_home old new)
+          (subst (λ (s : Status). RanThrough tells g.P.D.Disk.sight g.P.D.Counted.faults asked s unread before after old_home new_home old new)
           (sym c.status_of.ensures.shown) so);
       all_read = λ done reads. ended_read c.run_form.result (g.S.Stream.left c.run_form.new.input)
           (done_only c.run_form.result (sym c.status_of.ensures.shown ∙ done)) c.run_form.ensures.all_read;
@@ -237,16 +237,16 @@ returns-in-NoForm-clause-ran g c =
     let run = c.write_last.result in
     let of = c.write_last.ensures in
     let parts = parts_there unread in
-    let so = over_through asked unread before after tells g.P.D.Disk.sight home home last last
+    let so = over_through asked unread before after tells g.P.D.Disk.sight g.P.D.Counted.faults home home last last
     (untouched tells g.P.D.Disk.sight home) (λ trade. had_none tells g.P.D.Disk.sight Resume trade home) parts.0
     true ends.Usage (result_shown run) (stage_usage asked no_hands true parts.0 (form_none words c.in-NoForm.ensures.shown)) parts.1
     (last_told ends.Usage lasts.Usage refl before after _ (sym (usage_text _)) run of.ok of.err of.stop) in
-    let ran = whole_through asked (result_shown run) unread before after tells g.P.D.Disk.sight home home old new
+    let ran = whole_through asked (result_shown run) unread before after tells g.P.D.Disk.sight g.P.D.Counted.faults home home old new
     (blames_written run old new of.stop of.write_fault)
     (record { source = omega arith; sink = of.later; depot = omega arith; disks = λ k. omega arith }) so in
     record {
       is_run = rw (← c.in-NoForm.ensures.shown)
-          (subst (λ (s : Status). RanThrough tells g.P.D.Disk.sight asked s unread before after home home old new)
+          (subst (λ (s : Status). RanThrough tells g.P.D.Disk.sight g.P.D.Counted.faults asked s unread before after home home old new)
           (sym c.status_of-in-NoForm.ensures.shown) ran);
       all_read = λ done reads. absurd (usage_undone _ c.write_last.result
           (done_only c.write_last.result (sym c.status_of-in-NoForm.ensures.shown ∙ done)) c.write_last.ensures.ok);
