@@ -22,6 +22,7 @@ use Rattle.pec_runs.specs.Plays as plays
 use Rattle.pec_runs.specs.Ran.{Blames, Counts, TellsAs, status_at}
 use Rattle.pec_runs.specs.Statuses.{Status, status_of}
 use Rattle.pec_runs.specs.Statuses as statuses
+use Rattle.pec_runs.specs.Complete.{CanBegin}
 use Rattle.pec_runs.specs.Transcripts.{NoFaults}
 use Rattle.pec_runs.specs.Transcripts.{StoodStill}
 use Rattle.pec_dossier.specs.Exports.{providers_had}
@@ -341,6 +342,23 @@ module _ (text_of : Range → Trade → List Provider → List (List Entry) → 
       refused : statuses.Refused ≡ statuses.NotFit → ⊥
       refused e = cc
 
+  -- what came of the next disk, where it is told of one
+  pub came_so : (unread : Option Bytes) → (ran : Ran statuses.NotFit unread)
+      → CameNext ran.setting ran.opening ran.opening.next
+  came_so unread ran =
+      by_at statuses.NotFit (CameNext ran.setting ran.opening ran.opening.next) ran.setting ran.opening ran.bytes
+      (λ told. absurd (stopped_not statuses.NotFit told.0))
+      (λ long told. absurd (too_long (end_is ends.LongDirectory statuses.NotFit told.0)))
+      (λ why is told. absurd (refused (end_is (ends.DirectoryRefused why) statuses.NotFit told.0)))
+      (λ providers is setting came goes. came)
+      ran.early ran.is_at
+    where
+      too_long : statuses.InputTooLong ≡ statuses.NotFit → ⊥
+      too_long e = cc
+
+      refused : statuses.Refused ≡ statuses.NotFit → ⊥
+      refused e = cc
+
   pub failing_so : (unread : Option Bytes) → (ran : Ran statuses.StartFault unread) → WasFailing ran.opening.next
   failing_so unread ran =
       by_at statuses.StartFault (WasFailing ran.opening.next) ran.setting ran.opening ran.bytes
@@ -519,8 +537,23 @@ module _ (text_of : Range → Trade → List Provider → List (List Entry) → 
   blamed (inr risen) =
       never_risen (old.disks risen.0) (new.disks risen.0) risen.1 (none.disks risen.0)
 
+  -- Over disks that hold journals of their providers' own no journal is unfit.
+  own_fits : tells → (setting : Setting) (number : ℕ) (unfit : Unfit)
+      → IsNext (trade_in setting) (disks_at tells sight home) Resume number (Unfits unfit)
+      → CanBegin sight (trade_in setting) home Resume → ⊥
+  own_fits told setting number unfit came can =
+      let own = can number came.2
+      in came.3 (sight own.disk).seen (told, (own.disk, own.is, refl)) own.entries own.own own.journal
+
+  pub never_unfit : tells → (ran : RanSo statuses.NotFit) → CanBegin sight (trade_in ran.setting) home Resume → ⊥
+  never_unfit told ran can =
+      let so = unfit_so text_of header tells sight faults range before after home left old.disks new.disks (Some text) ran
+      in own_fits told ran.setting (next_of ran.opening) so.0
+      (subst (IsNext (trade_in ran.setting) (disks_at tells sight home) Resume (next_of ran.opening)) so.1
+      (came_so text_of header tells sight faults range before after home left old.disks new.disks (Some text) ran)) can
+
   whole_by : (status : Status) → (ran : RanSo status) → Blames status old new → IsOfExtract status
-      → ((unfit : Unfit) → ran.opening.next ≢ Unfits unfit) → IsWhole status ran.setting ran.opening
+      → (status ≡ statuses.NotFit → ⊥) → IsWhole status ran.setting ran.opening
   whole_by statuses.Done ran blames of fit = done_whole ran
   whole_by statuses.Refused ran blames of fit =
       let so = refused_so text_of header tells sight faults range before after home left old.disks new.disks (Some text) ran
@@ -528,9 +561,7 @@ module _ (text_of : Range → Trade → List Provider → List (List Entry) → 
   whole_by statuses.InputTooLong ran blames of fit =
       let so = long_so text_of header tells sight faults range before after home left old.disks new.disks (Some text) ran
       in absurd (never_long ran.bytes ran.input so.0)
-  whole_by statuses.NotFit ran blames of fit =
-      let so = unfit_so text_of header tells sight faults range before after home left old.disks new.disks (Some text) ran
-      in absurd (fit so.0 so.1)
+  whole_by statuses.NotFit ran blames of fit = absurd (fit refl)
   whole_by statuses.ReadFault ran blames of fit = absurd (never_risen old.source new.source blames none.source)
   whole_by statuses.WriteFault ran blames of fit = absurd (never_risen old.sink new.sink blames none.sink)
   whole_by statuses.StartFault ran blames of fit = absurd (blamed blames)
@@ -551,4 +582,45 @@ module _ (text_of : Range → Trade → List Provider → List (List Entry) → 
   whole_so status ran fit =
       whole_by status ran.extracted ran.blame
       (status_so text_of header tells sight faults range before after home left old.disks new.disks status (Some text)
-      ran.extracted) fit
+      ran.extracted)
+      (λ e. subst (λ (s : Status). (ran : RanSo s) → ((unfit : Unfit) → ran.opening.next ≢ Unfits unfit) → ⊥) (sym e)
+      (λ ran fit.
+      let so = unfit_so text_of header tells sight faults range before after home left old.disks new.disks (Some text) ran
+      in fit so.0 so.1)
+      ran.extracted fit)
+
+  -- where the disks hold journals of their providers' own
+  pub complete_so : tells → (status : Status)
+      → (ran : ExtractRan text_of header tells sight faults range status (Some text) before after home left old new)
+      → CanBegin sight (trade_in ran.extracted.setting) home Resume
+      → (status ≡ statuses.NoMemory) ⊎ ((status ≡ statuses.Changed) ⊎ ((status ≡ statuses.Done)
+      × IsSetting providers ran.extracted.setting × (ran.extracted.opening.next ≡ NoMore)
+      × (after ≡ followed_by before (text_of range (trade_in ran.extracted.setting) providers
+      ran.extracted.opening.journals))))
+  complete_so told status ran can =
+      by_whole (whole_by status ran.extracted ran.blame
+      (status_so text_of header tells sight faults range before after home left old.disks new.disks status (Some text)
+      ran.extracted) (λ e. no e ran.extracted can))
+    where
+      by_rest : (status ≡ statuses.Changed) ⊎ ((status ≡ statuses.Done) × IsSetting providers ran.extracted.setting
+          × (ran.extracted.opening.next ≡ NoMore)
+          × (tells → after ≡ followed_by before (text_of range (trade_in ran.extracted.setting) providers
+          ran.extracted.opening.journals)))
+          → (status ≡ statuses.NoMemory) ⊎ ((status ≡ statuses.Changed) ⊎ ((status ≡ statuses.Done)
+          × IsSetting providers ran.extracted.setting × (ran.extracted.opening.next ≡ NoMore)
+          × (after ≡ followed_by before (text_of range (trade_in ran.extracted.setting) providers
+          ran.extracted.opening.journals))))
+      by_rest (inl changed) = inr (inl changed)
+      by_rest (inr done) = inr (inr (done.0, done.1, done.2, done.3 told))
+
+      by_whole : IsWhole status ran.extracted.setting ran.extracted.opening
+          → (status ≡ statuses.NoMemory) ⊎ ((status ≡ statuses.Changed) ⊎ ((status ≡ statuses.Done)
+          × IsSetting providers ran.extracted.setting × (ran.extracted.opening.next ≡ NoMore)
+          × (after ≡ followed_by before (text_of range (trade_in ran.extracted.setting) providers
+          ran.extracted.opening.journals))))
+      by_whole (inl lacks) = inl lacks
+      by_whole (inr rest) = by_rest rest
+
+      no : status ≡ statuses.NotFit → (so : RanSo status) → CanBegin sight (trade_in so.setting) home Resume → ⊥
+      no e = subst (λ (s : Status). (so : RanSo s) → CanBegin sight (trade_in so.setting) home Resume → ⊥) (sym e)
+          (never_unfit told)

@@ -11,16 +11,18 @@ use Rattle.pec_plays.specs.Commands.{Command, Luck}
 use Rattle.pec_screen.specs.Verdicts.{Patterns}
 use Rattle.pec_load.specs.Generated.{commands_of}
 use Rattle.pec_load.specs.Heard.{load_input}
-use Rattle.pec_load_runs.specs.Loading.{IsOfLoad, IsQuiet, LoadRan, load_asked, load_script, state_text, written_behind}
+use Rattle.pec_load_runs.specs.Loading.{IsOfLoad, IsQuiet, LoadRan, counts_with, load_asked, load_script, state_text, written_behind}
 use Rattle.pec_load_runs.proofs.ScriptLemmas.{Told, load_begins, load_halts, never_restarts}
 use Rattle.pec_runs.specs.Endings.{End}
 use Rattle.pec_runs.specs.Endings as ends
 use Rattle.pec_runs.specs.Happened.{Begun, Halted, Happened, Stage, by_next, outcome_at, outcome_of, providers_in, stage_of}
-use Rattle.pec_runs.specs.Openings.{Disks, Next, NoMore, Holds, Unfits, Fails, Stops, IsNext, Run, Resume, next_of}
+use Rattle.pec_ledger.specs.Trade.{Trade}
+use Rattle.pec_runs.specs.Complete.{CanBegin}
+use Rattle.pec_runs.specs.Openings.{Disks, IsOpening, Next, Opening, disks_at, NoMore, Holds, Unfits, Fails, Stops, IsNext, Run, Resume, next_of}
 use Rattle.pec_runs.specs.Plays.{Finish, MayPlay, Rest, Stopped, Strayed, ToTheEnd, at_end, finish_of, outcome_text}
 use Rattle.pec_runs.specs.Plays as plays
 use Rattle.pec_runs.specs.ScriptLines.{command_in}
-use Rattle.pec_runs.specs.Ran.{Counts, IsAt, PlaysOn, Ran, TellsAs, beginning, status_at, world}
+use Rattle.pec_runs.specs.Ran.{Counts, IsAt, PlaysOn, Ran, RanOver, TellsAs, beginning, status_at, world}
 use Rattle.pec_runs.specs.Statuses.{Status, status_of}
 use Rattle.pec_runs.specs.Statuses as statuses
 use Rattle.pec_runs.specs.Transcripts.{NoFaults, StoodStill}
@@ -31,7 +33,7 @@ use Rattle.pec_runs.specs.Transcripts.{NoFaults, StoodStill}
 abbrev Finishes : Happened → ℕ → Finish → Type 0
 Finishes happened count (plays.Ends ends.Done) =
     (happened.opening.next ≡ NoMore) × (length happened.lucks ≡ length (commands_of count))
-Finishes happened count (plays.Ends (ends.NotEmpty provider)) = Unit {0}
+Finishes happened count (plays.Ends (ends.NotEmpty provider)) = happened.opening.next ≡ Holds
 Finishes happened count plays.Stops = Unit {0}
 Finishes happened count plays.Fails = Unit {0}
 Finishes happened count _ = ⊥
@@ -59,7 +61,7 @@ module _ (screens : List (List Patterns)) (count : ℕ) (tells : Type 0) (old_di
       → PlaysOn tells old_disks new_disks old new happened (load_script count) next
       → Finishes happened count (by_next (world happened) happened.screens happened.opening happened.lucks happened.rest (load_script count) next).finish
   next_finishes NoMore e is may = rest_finishes happened.rest e may
-  next_finishes Holds e is may = tt
+  next_finishes Holds e is may = e
   next_finishes (Unfits unfit) e is may = absurd (not_resumed is.0)
     where
       not_resumed : Run ≡ Resume → ⊥
@@ -172,6 +174,64 @@ done_of happened count plays.Stops is e = cc
 done_of happened count plays.Fails is e = cc
 done_of happened count plays.Strays is e = absurd is
 
+-- ---- status 8
+
+holds_of : (happened : Happened) (count : ℕ) (finish : Finish) → Finishes happened count finish
+    → status_at finish ≡ Some statuses.NotEmpty → happened.opening.next ≡ Holds
+holds_of happened count (plays.Ends ends.Done) is e = cc
+holds_of happened count (plays.Ends (ends.NotEmpty provider)) is e = is
+holds_of happened count (plays.Ends ends.Usage) is e = absurd is
+holds_of happened count (plays.Ends ends.LongDirectory) is e = absurd is
+holds_of happened count (plays.Ends ends.NoScript) is e = absurd is
+holds_of happened count (plays.Ends (ends.DirectoryRefused why)) is e = absurd is
+holds_of happened count (plays.Ends (ends.NotFit provider unfit)) is e = absurd is
+holds_of happened count (plays.Ends (ends.LongLine number)) is e = absurd is
+holds_of happened count (plays.Ends ends.LongScript) is e = absurd is
+holds_of happened count (plays.Ends (ends.LineRefused number fault)) is e = absurd is
+holds_of happened count plays.Stops is e = cc
+holds_of happened count plays.Fails is e = cc
+holds_of happened count plays.Strays is e = absurd is
+
+-- what journals come to on empty disks
+abbrev pub Had : {D : Type 0} → Type 0 → (D → Sight) → (ℕ → Option D) → Type 0
+Had tells sight home = (trade : Trade) (opening : Opening) → IsOpening trade (disks_at tells sight home) Run opening
+    → CanBegin sight trade home Run → (opening.next ≡ NoMore) ⊎ (opening.next ≡ Fails) ⊎ (opening.next ≡ Stops)
+
+module _ {D : Type 0} (told : Told) (screens : List (List Patterns)) (count : ℕ) (few : count ≤ 20000) (before after : Option Bytes)
+    (tells : Type 0) (sight : D → Sight) (home left : ℕ → Option D) (old new : Counts)
+    (ran : RanOver tells sight (load_asked screens) statuses.NotEmpty (Some (load_input count)) before after home left old new) where
+  abbrev Came : Finish
+  Came = (outcome_of (load_asked screens) ran.happened).finish
+
+  finish_is : status_at Came ≡ Some statuses.NotEmpty
+  finish_is =
+      let is = load_finishes told screens count few statuses.NotEmpty before after tells _ _ old new ran in
+      elim ran.told [
+        | inl as_is ↦ as_is.0
+        | inr more ↦ absurd (no_stray ran.happened count Came is more.strays)
+      ]
+
+  holds_next : ran.happened.opening.next ≡ Holds
+  holds_next = holds_of ran.happened count Came
+      (load_finishes told screens count few statuses.NotEmpty before after tells _ _ old new ran) finish_is
+
+  never_holds : (next : Next) → next ≡ Holds → (next ≡ NoMore) ⊎ (next ≡ Fails) ⊎ (next ≡ Stops) → ⊥
+  never_holds next e (inl other) = let x : NoMore ≡ Holds = sym other ∙ e in cc
+  never_holds next e (inr (inl other)) = let x : Fails ≡ Holds = sym other ∙ e in cc
+  never_holds next e (inr (inr other)) = let x : Stops ≡ Holds = sym other ∙ e in cc
+
+  -- the disks that were to be made on weren't all empty
+  pub not_blank : Had tells sight home → CanBegin sight (world ran.happened) home Run → ⊥
+  unfolding outcome_of
+  not_blank had can = elim (stage_by told screens count few ran.happened ran.happened.early refl ran.input) [
+    | inl halted ↦ absurd (none-some statuses.NotEmpty
+        (ap (λ s. status_at (outcome_at ran.happened s).finish) (sym halted) ∙ finish_is))
+    | inr begun ↦
+        let at = subst (IsAt tells (disks_at tells sight home) (disks_at tells sight left) old new ran.happened
+        statuses.NotEmpty (load_asked screens)) begun ran.is_at in
+        never_holds ran.happened.opening.next holds_next (had (world ran.happened) ran.happened.opening at.opening can)
+  ]
+
 played_all : Told → (screens : List (List Patterns)) (count : ℕ) → count ≤ 20000 → (status : Status) → status ≡ statuses.Done → (before after : Option Bytes)
     (tells : Type 0) (old_disks new_disks : Disks) (old new : Counts)
     (ran : Ran (load_asked screens) status (Some (load_input count)) before after tells old_disks new_disks old new)
@@ -234,3 +294,37 @@ load_quiet count screens before after tells sight faults home left old new statu
 load_quiet count screens before after tells sight faults home left old new statuses.DiskFault load none = load.told
 load_quiet count screens before after tells sight faults home left old new statuses.Changed load none = load.told
 load_quiet count screens before after tells sight faults home left old new statuses.InputTooLong load none = load.told
+
+-- on empty disks
+pub load_complete : {D : Type 0} → Told → (screens : List (List Patterns)) (count : ℕ) (before after : Option Bytes)
+    (tells : Type 0) (sight : D → Sight) (faults : D → ℕ) (home left : ℕ → Option D) (old new : Counts) (status : Status)
+    → count ≤ 20000 → Had tells sight home
+    → (load : LoadRan tells sight faults count screens status before after home left old new) → NoFaults old new
+    → CanBegin sight (world load.through.ran.happened) home Run → (status ≡ statuses.NoMemory) ⊎ (status ≡ statuses.Done)
+load_complete told screens count before after tells sight faults home left old new status few had load none can =
+    by_status status load (load_quiet count screens before after tells sight faults home left old new status load none) can
+  where
+    by_status : (status : Status)
+        → (load : LoadRan tells sight faults count screens status before after home left old new) → IsQuiet status
+        → CanBegin sight (world load.through.ran.happened) home Run
+        → (status ≡ statuses.NoMemory) ⊎ (status ≡ statuses.Done)
+    by_status statuses.Done load quiet can = inr refl
+    by_status statuses.NoMemory load quiet can = inl refl
+    by_status statuses.NotEmpty load quiet can =
+        absurd (subst (λ (s : Status).
+        (ran : RanOver tells sight (load_asked screens) s (Some (load_input count)) (Some []) (Some load.lines) home left
+        (counts_with old 0 0) (counts_with new load.source load.sink)) → CanBegin sight (world ran.happened) home Run → ⊥)
+        (sym load.told.0)
+        (λ ran can. not_blank told screens count few (Some []) (Some load.lines) tells sight home left (counts_with old 0 0)
+        (counts_with new load.source load.sink) ran had can) load.through.ran can)
+    by_status statuses.Usage load quiet can = absurd quiet
+    by_status statuses.Refused load quiet can = absurd quiet
+    by_status statuses.ReadFault load quiet can = absurd quiet
+    by_status statuses.WriteFault load quiet can = absurd quiet
+    by_status statuses.StartFault load quiet can = absurd quiet
+    by_status statuses.NotFit load quiet can = absurd quiet
+    by_status statuses.ClockFault load quiet can = absurd quiet
+    by_status statuses.DoorFault load quiet can = absurd quiet
+    by_status statuses.DiskFault load quiet can = absurd quiet
+    by_status statuses.Changed load quiet can = absurd quiet
+    by_status statuses.InputTooLong load quiet can = absurd quiet

@@ -1,4 +1,4 @@
-ghost use Rattle.std.specs.Prelude.{◌≡◌, ◌≢◌, ℕ, ◌≤◌, false, List, Option, Some, length};
+ghost use Rattle.std.specs.Prelude.{◌≡◌, ◌≢◌, ℕ, ◌≤◌, ◌⊎◌, false, List, Option, Some, length};
 ghost use Rattle.pec_types.specs.Bytes.{Bytes};
 ghost use Rattle.pec_outside.specs.Flow.{followed_by};
 ghost use Rattle.pec_screen.specs.Verdicts.{Patterns};
@@ -8,6 +8,7 @@ ghost use Rattle.pec_load.specs.Generated.{commands_of};
 ghost use Rattle.pec_load.specs.Heard.{load_input};
 ghost use Rattle.pec_load.specs.declared.generating.TheConstants.{MOST_MESSAGES};
 ghost use Rattle.pec_load_runs.specs.Loading.{IsOfLoad, IsQuiet, LoadRan, load_asked, load_script, state_text};
+ghost use Rattle.pec_runs.specs.Complete.{CanBegin};
 ghost use Rattle.pec_runs.specs.Happened.{Begun, outcome_of, stage_of};
 ghost use Rattle.pec_runs.specs.Openings.{NoMore, Run};
 ghost use Rattle.pec_runs.specs.Plays.{Strays};
@@ -19,7 +20,7 @@ ghost use Rattle.pec_runs.specs.Transcripts.{NoFaults};
 
 use pec_load::{a_load_has_its_commands, a_load_has_its_directory};
 use pec_outside::Depot;
-use pec_runs::a_line_is_one_thing;
+use pec_runs::{a_line_is_one_thing, journals_are_had_without_faults};
 
 /// What a load plays is within all limits and refused nowhere: the run begins, with all of the load's commands. So it
 /// ends by its script's end, by a device, for want of memory, or since a disk isn't empty.
@@ -60,8 +61,16 @@ pub fn a_status_says_what_a_load_told<P: Depot>()
         (old new : Counts)
         → LoadRan (P.tells × P.D.tells) P.D.sight P.D.faults count screens status before after (P.home depot) (P.home left) old new
         → NoFaults old new → IsQuiet status }
+    // On empty disks nothing but want of memory does.
+    ensures complete { P.tells × P.D.tells → (screens : List (List Patterns)) (count : ℕ) (status : Status)
+        (before after : Option Bytes) (depot left : P) (old new : Counts) → count ≤ 20000
+        → (load : LoadRan (P.tells × P.D.tells) P.D.sight P.D.faults count screens status before after (P.home depot)
+        (P.home left) old new)
+        → NoFaults old new → CanBegin P.D.sight (world load.through.ran.happened) (P.home depot) Run
+        → (status ≡ statuses.NoMemory) ⊎ (status ≡ statuses.Done) }
 {
     a_load_has_its_directory();
     a_load_has_its_commands();
     a_line_is_one_thing();
+    journals_are_had_without_faults::<P>();
 }

@@ -6,6 +6,7 @@ use Rattle.pec_outside.specs.DiskModel.{Sight}
 use Rattle.pec_outside.specs.Flow.{HasRisen}
 use Rattle.pec_ledger.specs.Trade.{Trade}
 use Rattle.pec_runs.specs.Complete.{CanBegin}
+use Rattle.pec_runs.specs.Happened.{providers_in}
 use Rattle.pec_runs.specs.Openings.{Fails, Form, IsOpening, Next, NoMore, Opening, Resume, Run, Stops, disks_at, next_of}
 use Rattle.pec_runs.specs.Plays as plays
 use Rattle.pec_runs.specs.Ran.{TellsAs, WritesAt}
@@ -134,6 +135,10 @@ module _ {D : Type 0} (tells : Type 0) (sight : D → Sight) (told : tells) (ask
       | inr whole ↦ inr (record { form = form; is_form = is; had = all; serves = whole })
     ]
 
+    abbrev Text : Bytes
+    Text = plays.finish_text (providers_in happened.setting)
+        (finish_at happened.course.holds (next_of happened.course.opening) happened.course.opening.next)
+
     -- a disk came to nothing
     tells_next : (next : Next) → happened.course.opening.next ≡ next → (finish : plays.Finish)
         → finish_at happened.course.holds (next_of happened.course.opening) next ≡ finish
@@ -141,8 +146,8 @@ module _ {D : Type 0} (tells : Type 0) (sight : D → Sight) (told : tells) (ask
         old.devices.disks new.devices.disks happened.setting happened.course form
         → (text : Bytes) × TellsAs status before after text finish
     tells_next next came finish is goes = (
-      _,
-      subst (λ (f : plays.Finish). TellsAs status before after _ f)
+      Text,
+      subst (λ (f : plays.Finish). TellsAs status before after Text f)
           (ap (finish_at happened.course.holds (next_of happened.course.opening)) came ∙ is) goes.told,
     )
 

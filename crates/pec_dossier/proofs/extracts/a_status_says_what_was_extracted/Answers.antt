@@ -1,5 +1,5 @@
 -- What statuses say: from the lemmas.
-use Rattle.pec_dossier.proofs.ExtractLemmas.{done_so, failing_so, faulted_so, long_so, refused_so, status_so, stopped_so}
+use Rattle.pec_dossier.proofs.ExtractLemmas.{complete_so, done_so, failing_so, faulted_so, long_so, refused_so, status_so, stopped_so}
 use Rattle.pec_dossier.proofs.ExtractLemmas.{unfit_so, whole_so}
 use Rattle.pec_dossier.proofs.extracts.a_status_says_what_was_extracted.Goals as goal
 
@@ -36,4 +36,7 @@ returns g c =
       whole = λ text_of header range status text before after depot left old new ran none short providers reads fit.
           whole_so text_of header tells sight faults range before after (g.P.Depot.home depot) (g.P.Depot.home left) old new none
           text short providers reads status ran fit;
+      complete = λ told text_of header range status text before after depot left old new ran none short providers reads can.
+          complete_so text_of header tells sight faults range before after (g.P.Depot.home depot) (g.P.Depot.home left) old new
+          none text short providers reads told status ran can;
     }

@@ -4,7 +4,7 @@ use Rattle.pec_ledger.specs.Network.{Site}
 use Rattle.pec_http.specs.declared.demands.Look.TheVariants as looks
 use Rattle.pec_service.specs.Connections.{Connection, Heard, Hearing, IsReplied, Sees}
 use Rattle.pec_service.specs.Runs.{first_place, world}
-use Rattle.pec_service.specs.Services.{AreConnections}
+use Rattle.pec_service.specs.Services.{AreConnections, place_behind}
 use Rattle.pec_service.proofs.IsolationLemmas.{connection_at}
 use Rattle.pec_service.proofs.ShownLemmas.{front_are}
 use Rattle.pec_service.proofs.RunLemmas.{serves_on}
@@ -23,7 +23,8 @@ returns-clause-book g c = λ asked status unread before after depot left here th
     let is = connection_at trade tells kept start front rest connection all in
     let state = c.a_services_books_belong_to_the_ledger.ensures.states trade kept start front
     (front_are trade tells kept start front rest connection all) in
-    let replied = subst (λ (h : Hearing). IsReplied trade kept _ connection.handed h connection.reply) heard is.replied in
+    let replied = subst (λ (h : Hearing). IsReplied trade kept (place_behind start front).network.sites
+    connection.handed h connection.reply) heard is.replied in
     record {
       shows = c.what_is_shown_is_the_ledgers.ensures.book kept happened.setting.seals _ connection.handed address done;
       written = subst (λ (s : List Site). IsReplied trade kept s connection.handed (Heard (Sees address looks.Book))
@@ -43,7 +44,8 @@ returns-clause-items g c = λ asked status unread before after depot left here t
     let is = connection_at trade tells kept start front rest connection all in
     let state = c.a_services_books_belong_to_the_ledger.ensures.states trade kept start front
     (front_are trade tells kept start front rest connection all) in
-    let replied = subst (λ (h : Hearing). IsReplied trade kept _ connection.handed h connection.reply) heard is.replied in
+    let replied = subst (λ (h : Hearing). IsReplied trade kept (place_behind start front).network.sites
+    connection.handed h connection.reply) heard is.replied in
     record {
       shows = c.what_is_shown_is_the_ledgers.ensures.items kept happened.setting.seals _ connection.handed address done;
       written = subst (λ (s : List Site). IsReplied trade kept s connection.handed (Heard (Sees address looks.Items))
