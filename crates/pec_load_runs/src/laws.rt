@@ -63,7 +63,7 @@ pub fn a_status_says_what_a_load_told<P: Depot>()
         → NoFaults old new → IsQuiet status }
     // On empty disks nothing but want of memory does.
     ensures complete { P.tells × P.D.tells → (screens : List (List Patterns)) (count : ℕ) (status : Status)
-        (before after : Option Bytes) (depot left : P) (old new : Counts) → count ≤ 20000
+        (before after : Option Bytes) (depot left : P) (old new : Counts) → count ≤ MOST_MESSAGES
         → (load : LoadRan (P.tells × P.D.tells) P.D.sight P.D.faults count screens status before after (P.home depot)
         (P.home left) old new)
         → NoFaults old new → CanBegin P.D.sight (world load.through.ran.happened) (P.home depot) Run

@@ -8,7 +8,7 @@ use Rattle.pec_input.specs.Lines.{raw_lines}
 use Rattle.pec_input.specs.declared.buffers.Found.{Found}
 use Rattle.pec_input.specs.declared.buffers.Found.TheVariants as found
 use Rattle.pec_input.specs.declared.buffers.InputFault.{InputFault}
-use Rattle.pec_input.specs.declared.buffers.InputFault.TheVariants as faults
+use Rattle.pec_input.specs.declared.buffers.InputFault.TheVariants as input_faults
 use Rattle.pec_ledger.specs.Trade.{Trade}
 use Rattle.pec_runs.specs.Reading.{AreLinesLeft, IsRead, LinePoint, Reads, behind_line}
 use Rattle.pec_runs.specs.ScriptLines.{PassedOver, Says, command_in, longest_line}
@@ -42,8 +42,8 @@ module _ {D : Type 0} {tells : Type 0} {sight : D → Sight} {faults : D → ℕ
   lacks_here = laws.halted first here NoMemory (λ e. absurd cc) came
 
   pub input_fails : (fault : InputFault) → ReadTo here.point (stop_shown (stop_of fault))
-  input_fails faults.NoMemory = lacks_here
-  input_fails faults.ReadFault = laws.halted first here ReadFault (λ e. absurd cc) came
+  input_fails input_faults.NoMemory = lacks_here
+  input_fails input_faults.ReadFault = laws.halted first here ReadFault (λ e. absurd cc) came
 
   module _ (line : Bytes) (behind : Option Bytes) where
     abbrev WasFound : Found → Type 0

@@ -38,7 +38,7 @@ unlooked (reports.Told summary alfa beta) trade sites = tt
 unlooked reports.Untold trade sites = tt
 
 -- what was asked stands as it was
-pub unreported : {D : Type 0} (tells : Type 0) (sight : D → Sight) (asked : Asked) (status : Status)
+pub unreported : {D : Type 0} (tells : Type 0) (sight : D → Sight) (faults : D → ℕ) (asked : Asked) (status : Status)
     (unread before after : Option Bytes) (home left : ℕ → Option D) (from upto : ℕ → ℕ) (report : Report)
     → RanSoOver tells sight faults asked status unread before after home left from upto
     → RanReporting tells sight faults asked status unread before after home left from upto report report

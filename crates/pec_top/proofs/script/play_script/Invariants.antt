@@ -18,7 +18,7 @@ invariant-lines g l =
     record {
       reads : (depot.tells × disk.tells → AllStand disk.sight l.fn.network.providers) → (elsewhere : ℕ → ℕ)
           → Reads (world_of g.H.Sealer.seals l.fn.network)
-          (providers_of l.fn.network.kept) (depot.tells × disk.tells) disk.sight
+          (providers_of l.fn.network.kept) (depot.tells × disk.tells) disk.sight faults
           (at_first (point_of faults elsewhere (map g.J.Judge.spare_patterns l.fn.spares.items) l.fn.network (sink.held l.fn.out) (g.W.Counted.faults l.fn.out))
           (behind l.fn.buffer (g.S.Stream.left l.fn.source))) (record {
             point = point_of faults elsewhere (map g.J.Judge.spare_patterns l.spares.items) l.network (sink.held l.out) (g.W.Counted.faults l.out);
