@@ -1,6 +1,7 @@
 pub mod Blaming
 pub mod Calling
 pub mod Checking
+pub mod Complete
 pub mod Extracting
 pub mod Hosting
 pub mod Inputs

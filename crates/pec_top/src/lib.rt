@@ -4,6 +4,7 @@
 
 mod calling;
 mod checking;
+mod complete;
 mod ending;
 mod exporting;
 mod extracting;
@@ -22,5 +23,6 @@ mod survey;
 mod texts;
 mod top;
 
+pub use complete::each_form_is_complete;
 pub use status::Status;
 pub use top::run_pec;
