@@ -1,5 +1,5 @@
 -- What a status says of a run that writes an extract of logs.
-use Rattle.std.proofs.Common.{◌≡◌, ◌≢◌, ℕ, ◌-◌, ◌^◌, ◌<◌, ◌≤◌, Bool, List, [], length, refl, ap, subst, sym, ◌∙◌, arith, ◌⊎◌, inl, inr, Option, Some, Result, Ok, Err}
+use Rattle.std.proofs.Common.{◌≡◌, ◌≢◌, ℕ, ◌<◌, ◌≤◌, Bool, List, [], length, refl, ap, subst, sym, ◌∙◌, arith, ◌⊎◌, inl, inr, Option, Some, Result, Ok, Err}
 use Rattle.std.proofs.lemmas.Option.{none-some, same_Some}
 use Rattle.pec_types.specs.Bytes.{Bytes}
 use Rattle.pec_outside.specs.DiskModel.{Sight}
@@ -11,7 +11,7 @@ use Rattle.pec_input.specs.Directory.{Refusal, directory_in}
 use Rattle.pec_input.specs.declared.opening.TheConstants.{LONGEST_DIRECTORY}
 use Rattle.pec_script.specs.declared.answers.Unfit.{Unfit}
 use Rattle.pec_dossier.specs.Extracts.{ExtractRan, Extracted, Extracts, GoesOn, HasHeader, IsAt, IsOfExtract, Range, TellsHeader}
-use Rattle.pec_dossier.specs.Extracts.{TellsText, finish_at}
+use Rattle.pec_dossier.specs.Extracts.{finish_at}
 use Rattle.pec_runs.specs.Endings.{End, end_text}
 use Rattle.pec_runs.specs.Endings as ends
 use Rattle.pec_runs.specs.Happened.{IsSetting, Setting, providers_in, trade_in}

@@ -1,7 +1,6 @@
 -- Journals are had where no device fails and memory suffices.
-use Rattle.std.proofs.Common.{◌≡◌, ℕ, ◌<◌, ◌≤◌, ◌⊎◌, inl, inr, List, [], length, refl, ap, sym, subst, ◌∙◌, arith, Option, Some, None}
+use Rattle.std.proofs.Common.{◌≡◌, ℕ, ◌<◌, ◌⊎◌, inl, inr, length, refl, ap, sym, subst, ◌∙◌, arith, Option}
 use Rattle.std.specs.Prelude.{◌-◌, ◌^◌}
-use Rattle.std.proofs.lemmas.Option.{same_Some}
 use Rattle.pec_types.specs.Bytes.{Bytes}
 use Rattle.pec_outside.specs.DiskModel.{Sight}
 use Rattle.pec_outside.specs.Flow.{HasRisen}
@@ -11,7 +10,7 @@ use Rattle.pec_runs.specs.Happened.{Asked, Begun, Happened, Stage, by_next, outc
 use Rattle.pec_runs.specs.Openings.{Fails, Form, Holds, IsNext, IsOpening, Next, NoMore, Opening, Resume, Run, Stops, Unfits, disks_at, next_of}
 use Rattle.pec_runs.specs.Plays.{Finish}
 use Rattle.pec_runs.specs.Plays as plays
-use Rattle.pec_runs.specs.Ran.{Blames, Counts, Ran, RanOver, Tells, TellsAs, WritesAt, world}
+use Rattle.pec_runs.specs.Ran.{Blames, Counts, RanOver, TellsAs, WritesAt, world}
 use Rattle.pec_runs.specs.ScriptLines.{Script}
 use Rattle.pec_runs.specs.Statuses.{Status}
 use Rattle.pec_runs.specs.Statuses as statuses

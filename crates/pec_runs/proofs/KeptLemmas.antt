@@ -1,7 +1,6 @@
 -- What disks that tell what they hold gave back: no forged frame is put, and no entry is told as changed.
 use Rattle.std.proofs.Common.{◌≡◌, ℕ, List, [], ◌∷◌, refl, subst, Option}
 use Rattle.std.specs.Prelude.{All}
-use Rattle.std.specs.List.{AllByRecursion}
 use Rattle.std.proofs.lemmas.List.Elements.{All-cons, All-nil}
 use Rattle.pec_types.specs.Bytes.{Bytes}
 use Rattle.pec_ledger.specs.Ledger.{Fit}
@@ -9,7 +8,6 @@ use Rattle.pec_ledger.specs.Network.{Site, Sound, at_start, journals_in}
 use Rattle.pec_ledger.specs.Trade.{Trade}
 use Rattle.pec_ledger.specs.TradeLaws.{IsTrade}
 use Rattle.pec_plays.specs.Commands.{Command, Luck, played}
-use Rattle.pec_plays.specs.Possible.{GaveWhatWasKept}
 use Rattle.pec_plays.specs.Scripts.{AllUnforged, script}
 use Rattle.pec_screen.specs.Verdicts.{Patterns}
 use Rattle.pec_runs.specs.Happened.{Asked, Begun, Halted, Happened, Over, Stage, by_next, outcome_at, outcome_of, stage_of}

@@ -1,12 +1,12 @@
 -- A run that is killed at a moment of a step.
-use Rattle.std.proofs.Common.{◌≡◌, ℕ, zero, suc, ◌<◌, ◌≤◌, inl, inr, List, [], ◌∷◌, ◌++◌, length, take, refl, ap, sym, subst, ◌∙◌, arith, Option, Some}
+use Rattle.std.proofs.Common.{◌≡◌, ℕ, zero, suc, ◌<◌, ◌≤◌, inl, inr, List, [], ◌∷◌, ◌++◌, length, refl, ap, sym, subst, ◌∙◌, arith, Option, Some}
 use Rattle.std.specs.Prelude.{slice_index_or}
 use Rattle.std.proofs.lemmas.List.{append-nil, append_assoc}
 use Rattle.std.proofs.lemmas.Option.{same_Some}
 use Rattle.pec_runs.proofs.GoingLemmas.{wrote_more}
 use Rattle.pec_types.specs.Bytes.{Bytes}
 use Rattle.pec_outside.specs.DiskModel.{Sight}
-use Rattle.pec_outside.specs.Flow.{WrotePart, followed_by}
+use Rattle.pec_outside.specs.Flow.{WrotePart}
 use Rattle.pec_directory.specs.Directory.{Provider}
 use Rattle.pec_records.specs.declared.entries.Entry.{Entry}
 use Rattle.pec_ledger.specs.Ledger.{Fit}

@@ -97,13 +97,13 @@ module _ {D : Type 0} (tells : Type 0) (sight : D → Sight) (faults : D → ℕ
   -- These steps are the commands of a script, with the lucks that happened; and what was written, from what the output held
   -- before to what it held after, is a front of their lines.
   pub record PlaysThrough (before after : Option Bytes) (happened : Happened) (form : Form) (script : Script) : Type 0
-      where
-    pub goes : GoesThrough (world happened) form happened.screens happened.opening.journals
-    pub lucks : lucks_in goes.steps ≡ happened.lucks
-    pub unplayed : List Act
-    pub acts : acts_of goes.steps ++ unplayed ≡ acts_of_script (providers_in happened.setting) script
-    pub written : tells
-        → WrotePart before after (text_of (world happened) (providers_in happened.setting) goes.first goes.steps)
+    where
+      pub goes : GoesThrough (world happened) form happened.screens happened.opening.journals
+      pub lucks : lucks_in goes.steps ≡ happened.lucks
+      pub unplayed : List Act
+      pub acts : acts_of goes.steps ++ unplayed ≡ acts_of_script (providers_in happened.setting) script
+      pub written : tells
+          → WrotePart before after (text_of (world happened) (providers_in happened.setting) goes.first goes.steps)
 
   -- So the disks went, by how far the run came: without a disk that was asked for nothing is written; where not all journals
   -- were had, each disk is as that left it; and else a script was played.

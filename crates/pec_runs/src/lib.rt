@@ -28,8 +28,8 @@ pub use leaving::{a_journal_that_is_there_survives, a_run_leaves_its_journals};
 pub use moments::{a_run_may_be_killed_at_any_moment, what_was_told_is_kept};
 pub use moving::moves_are_joined;
 pub use passing::{
-    a_run_passes_its_disks_on, a_run_tells_what_its_disks_hold, disks_are_passed_on, runs_go_on_from_one_another,
-    what_is_passed_on_fits,
+    a_run_passes_its_disks_on, a_run_tells_what_its_disks_hold, disks_are_passed_on,
+    runs_go_on_from_one_another, what_is_passed_on_fits,
 };
 pub use quiet::{
     a_run_without_faults_has_one_transcript, a_run_without_faults_is_there,

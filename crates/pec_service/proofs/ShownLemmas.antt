@@ -1,5 +1,5 @@
 -- What an account is shown of its own is what the ledger has of it.
-use Rattle.std.proofs.Common.{◌≡◌, ℕ, ◌==◌, Bool, true, false, List, [], ◌∷◌, ◌++◌, refl, ap, sym, ◌∙◌, Option, Some, None}
+use Rattle.std.proofs.Common.{◌≡◌, ℕ, Bool, true, false, List, [], ◌∷◌, ◌++◌, refl, ap, ◌∙◌, Option, Some, None}
 use Rattle.std.specs.Prelude.{if◌then◌else◌}
 use Rattle.std.specs.Option.{option_map}
 use Rattle.std.proofs.lemmas.Bool.{eq-eqb}
@@ -45,7 +45,6 @@ module _ (kept : List Kept) (seals : Seals) (sites : List Site) (address : Bytes
   abbrev answer : Option ℕ → Look → Reply
   answer home looked =
       shown_reply (kind_of looked) (shown_with (providers_of kept) (option_map (share_at trade sites address) home) looked)
-
 
   book_up : (number : ℕ) → account_home (providers_of kept) address ≡ Some number → (up : Bool)
       → (site_at sites number).up ≡ up → (answer (Some number) looks.Book).status ≡ codes_of.Ok

@@ -114,12 +114,12 @@ module _ {D S : Type 0} (sight : D → Sight) (count : D → ℕ) (tells : Type 
 
 -- what is known of moves that are joined
 pub record MoveLaws {D : Type 0} (trade : Trade) (disks all : Type 0) (sight : D → Sight) (faults : D → ℕ) : Type 0
-    where
-  pub on : (first here there : State D) → MovesOn trade all sight faults first here → MovesOn trade all sight faults here there
-      → MovesOn trade all sight faults first there
-  pub part : (first here there : State D) → MovesOn trade all sight faults first here → Moves trade all sight faults here there
-      → Moves trade all sight faults first there
-  pub told : (here there : State D) → MovesOn trade disks sight faults here there → MovesOn trade all sight faults here there
+  where
+    pub on : (first here there : State D) → MovesOn trade all sight faults first here → MovesOn trade all sight faults here there
+        → MovesOn trade all sight faults first there
+    pub part : (first here there : State D) → MovesOn trade all sight faults first here → Moves trade all sight faults here there
+        → Moves trade all sight faults first there
+    pub told : (here there : State D) → MovesOn trade disks sight faults here there → MovesOn trade all sight faults here there
 
 module _ {D S : Type 0} (sight : D → Sight) (count : D → ℕ) (disks all : Type 0) (seals : S → Seals)
     (start now again : NetworkState D S) (elsewhere : ℕ → ℕ) (laws : MoveLaws (world_of seals start) disks all sight count)

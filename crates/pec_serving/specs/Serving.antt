@@ -79,9 +79,9 @@ AreWritten _ before after text = after ≡ followed_by before text
 -- first state to the last connection by connection.
 pub record ServesSo (trade : Trade) (tells : Type 0) {D : Type 0} (sight : D → Sight) (faults : D → ℕ) (kept : List Kept)
     (wanted : ℕ) (first last : RunState D) (here there : Place) (before after : Option Bytes) (ending : Ending) : Type 0
-    where
-  pub service : Service
-  pub is : IsService trade tells kept wanted here there service
-  pub ending_is : service.ending ≡ ending_of ending
-  pub written : AreWritten ending before after (service_text trade kept here service)
-  pub moved : ServiceMoved trade tells sight faults first last service
+  where
+    pub service : Service
+    pub is : IsService trade tells kept wanted here there service
+    pub ending_is : service.ending ≡ ending_of ending
+    pub written : AreWritten ending before after (service_text trade kept here service)
+    pub moved : ServiceMoved trade tells sight faults first last service

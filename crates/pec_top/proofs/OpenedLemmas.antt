@@ -35,7 +35,7 @@ use Rattle.pec_top.proofs.CountLemmas.{fell_so}
 use Rattle.pec_top.proofs.HadFromLemmas.{all_begun, all_refused, all_since, all_until}
 use Rattle.pec_top.proofs.HadLemmas.{begins_so, left_part, opening_part, opening_whole}
 use Rattle.pec_top.proofs.RefusedLemmas.{names_next, not_all}
-use Rattle.pec_top.proofs.RestLemmas.{home_rest, leaves_back, left_failing, left_since, left_until, opening_failing, opening_since}
+use Rattle.pec_top.proofs.RestLemmas.{leaves_back, left_failing, left_since, left_until, opening_failing, opening_since}
 use Rattle.pec_top.proofs.RestLemmas.{reads_back, reads_on}
 use Rattle.pec_top.proofs.WholeLemmas.{left_whole}
 

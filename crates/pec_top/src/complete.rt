@@ -6,7 +6,10 @@ ghost use Rattle.pec_service.specs.Runs.{NoFaults};
 ghost use Rattle.pec_top.specs.Complete.{Completes, with_home};
 ghost use Rattle.pec_top.specs.Tasks.{ProgramRan, View, task_in};
 
-use pec_dossier::{a_status_says_what_was_checked, a_status_says_what_was_exported, a_status_says_what_was_extracted};
+use pec_dossier::{
+    a_status_says_what_was_checked, a_status_says_what_was_exported,
+    a_status_says_what_was_extracted,
+};
 use pec_load_runs::a_status_says_what_a_load_told;
 use pec_outside::Depot;
 use pec_runs::{a_run_without_faults_has_one_transcript, a_run_without_faults_is_complete};

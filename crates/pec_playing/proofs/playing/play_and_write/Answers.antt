@@ -38,7 +38,7 @@ returns-in_err-text-clause-goes g c = λ stands elsewhere.
     let laws : ActLaws g.D.Disk.sight g.D.Counted.faults trade providers tells command here there = record {
       played_so = λ luck stop is handed.
           c.an_act_is_done.ensures.played trade providers command luck here there stop is handed
-              (state_counted g.D.Counted.faults elsewhere left new) moment;
+          (state_counted g.D.Counted.faults elsewhere left new) moment;
       stopped_so = λ left. c.an_act_is_done.ensures.stopped trade providers command here there left moment;
       strayed_so = λ text stop. c.an_act_is_done.ensures.strayed trade providers command here there text stop;
     } in
@@ -73,7 +73,7 @@ returns-in_err-write_all-clause-goes g c = λ stands elsewhere.
     let laws : ActLaws g.D.Disk.sight g.D.Counted.faults trade providers tells command here there = record {
       played_so = λ luck stop is handed.
           c.an_act_is_done.ensures.played trade providers command luck here there stop is handed
-              (state_counted g.D.Counted.faults elsewhere left new) moment;
+          (state_counted g.D.Counted.faults elsewhere left new) moment;
       stopped_so = λ left. c.an_act_is_done.ensures.stopped trade providers command here there left moment;
       strayed_so = λ text stop. c.an_act_is_done.ensures.strayed trade providers command here there text stop;
     } in
@@ -111,7 +111,7 @@ returns-clause-goes g c = λ stands elsewhere.
     let laws : ActLaws g.D.Disk.sight g.D.Counted.faults trade providers tells command here there = record {
       played_so = λ luck stop is handed.
           c.an_act_is_done.ensures.played trade providers command luck here there stop is handed
-              (state_counted g.D.Counted.faults elsewhere left new) moment;
+          (state_counted g.D.Counted.faults elsewhere left new) moment;
       stopped_so = λ left. c.an_act_is_done.ensures.stopped trade providers command here there left moment;
       strayed_so = λ text stop. c.an_act_is_done.ensures.strayed trade providers command here there text stop;
     } in

@@ -14,7 +14,7 @@ returns-clause-whole g c = λ told asked status unread before after depot left o
       | inl lacks ↦ inl lacks
       | inr all ↦ elim (c.a_run_without_faults_has_one_transcript.ensures.one asked status unread before after depot left old new
           told ran none same) [
-        | inl lacks ↦ inl lacks
-        | inr tells ↦ inr (all, tells)
-      ]
+            | inl lacks ↦ inl lacks
+            | inr tells ↦ inr (all, tells)
+          ]
     ]

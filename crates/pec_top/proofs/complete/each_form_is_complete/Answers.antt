@@ -1,14 +1,10 @@
 -- By the words: what the law of each form says.
-use Rattle.std.proofs.Common.{◌≡◌, ◌⊎◌, ◌≤◌, ◌∙◌, ℕ, All, List, length, None, Ok, Option, Some, ap, inl, inr, subst, sym}
+use Rattle.std.proofs.Common.{◌≡◌, ◌⊎◌, List, Option, inl, inr, subst, sym}
 use Rattle.pec_types.specs.Bytes.{Bytes}
 use Rattle.pec_outside.specs.Flow.{followed_by}
-use Rattle.pec_directory.specs.Directory.{Provider}
-use Rattle.pec_dossier.specs.Checks.{CheckRan, checked_text, dossier_in, end_in}
+use Rattle.pec_dossier.specs.Checks.{CheckRan}
 use Rattle.pec_dossier.specs.Exports.{ExportRan}
-use Rattle.pec_dossier.specs.Extracts.{ExtractRan, Range}
-use Rattle.pec_input.specs.Directory.{directory_in}
-use Rattle.pec_input.specs.Lines.{raw_lines}
-use Rattle.pec_input.specs.Parts.{parts_of}
+use Rattle.pec_dossier.specs.Extracts.{ExtractRan}
 use Rattle.pec_ldif.specs.Writing.{ldif_text}
 use Rattle.pec_load_runs.specs.Loading.{LoadRan, load_asked, state_text}
 use Rattle.pec_runs.specs.Complete.{CanBegin}
@@ -70,13 +66,16 @@ returns g c = λ told words screens spares status depot left old new ran none.
         elim (c.a_status_says_what_a_load_told.ensures.complete told screens count status old.held new.held depot left
         old.counts.devices new.counts.devices few run none.devices can) [
           | inl lacks ↦ inl lacks
-          | inr done ↦ inr (done, subst (λ (s : Status). (load : LoadRan (g.P.Depot.tells × g.P.D.Disk.tells) g.P.D.Disk.sight
-          g.P.D.Counted.faults count screens s old.held new.held (g.P.Depot.home depot) (g.P.Depot.home left)
-          old.counts.devices new.counts.devices)
-          → new.held ≡ followed_by old.held (state_text count (world load.through.ran.happened)
-          (outcome_of (load_asked screens) load.through.ran.happened).after)) (sym done)
-          (λ load. (c.a_status_says_what_a_load_told.ensures.done screens count old.held new.held depot left
-          old.counts.devices new.counts.devices few load).2) run)
+          | inr done ↦ inr (
+            done,
+            subst (λ (s : Status). (load : LoadRan (g.P.Depot.tells × g.P.D.Disk.tells) g.P.D.Disk.sight
+                g.P.D.Counted.faults count screens s old.held new.held (g.P.Depot.home depot) (g.P.Depot.home left)
+                old.counts.devices new.counts.devices)
+                → new.held ≡ followed_by old.held (state_text count (world load.through.ran.happened)
+                (outcome_of (load_asked screens) load.through.ran.happened).after)) (sym done)
+                (λ load. (c.a_status_says_what_a_load_told.ensures.done screens count old.held new.held depot left
+                old.counts.devices new.counts.devices few load).2) run,
+          )
         ]
     by_task told words screens spares status depot left old new none NoForm run = λ unchanged.
         c.a_run_without_faults_has_one_transcript.ensures.one (record { words = words; screens = screens; spares = spares })

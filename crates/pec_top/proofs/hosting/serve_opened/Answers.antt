@@ -105,18 +105,18 @@ returns-in-Ok-clause-served g c = λ unread rest whole.
     refl
     (record {
       through = record {
-      first = state_in faults mid_last [] network;
-      last = state_in faults mid_last [] served;
-      begins = opened.begins;
-      seen = all_seen g.P.Depot.tells g.P.D.Disk.tells sight network c.a_network_is_whole.ensures;
-      stand = λ told. all_stand g.P.Depot.tells g.P.D.Disk.tells sight network c.a_network_is_whole.ensures
-          (opened.stands told);
-      had = opened.had;
-      begun = all_counted g.P.Depot.tells g.P.D.Disk.tells sight network c.a_network_is_whole.ensures faults mid_last [];
-      moves = c.serve-network.ensures.moves opened.stands mid_last;
-      kept = at_home;
-      elsewhere = λ told k past. kept_so.elsewhere told k (omega (arith, many, past))
-          ∙ opened.apart told.0 k (omega (arith, many, past));
+        first = state_in faults mid_last [] network;
+        last = state_in faults mid_last [] served;
+        begins = opened.begins;
+        seen = all_seen g.P.Depot.tells g.P.D.Disk.tells sight network c.a_network_is_whole.ensures;
+        stand = λ told. all_stand g.P.Depot.tells g.P.D.Disk.tells sight network c.a_network_is_whole.ensures
+            (opened.stands told);
+        had = opened.had;
+        begun = all_counted g.P.Depot.tells g.P.D.Disk.tells sight network c.a_network_is_whole.ensures faults mid_last [];
+        moves = c.serve-network.ensures.moves opened.stands mid_last;
+        kept = at_home;
+        elsewhere = λ told k past. kept_so.elsewhere told k (omega (arith, many, past))
+            ∙ opened.apart told.0 k (omega (arith, many, past));
       };
       moved = serves.moved;
     })
