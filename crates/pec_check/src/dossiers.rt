@@ -25,6 +25,7 @@ pub struct Finding {
 /// recipient first came.
 #[derive(Drop)]
 pub struct Dossier {
+    alloc: Global,
     pairs: IndexMap<PairKey, Option<Decision>>,
 }
 
@@ -39,17 +40,18 @@ impl Model for Dossier {
 }
 
 impl Dossier {
-    /// The dossier of no letters. It takes no memory, and keeps the allocator for what is added.
+    /// The dossier of no letters. It takes no memory, and keeps the allocator for what is added and told.
     pub fn new(alloc: Global) -> Dossier
         ensures { result ≡ findings_of [] }
     {
         Dossier {
+            alloc,
             pairs: IndexMap::new(alloc),
         }
     }
 
     /// Adds what a genuine letter says. Want of memory leaves the dossier as it was.
-    pub fn add(&mut self, alloc: Global, report: &Report) -> Result<(), NoMemory>
+    pub fn add(&mut self, report: &Report) -> Result<(), NoMemory>
         // The dossier of some letters becomes that of these and the new one.
         ensures ok { (reports : List ReportShown) → self.old ≡ findings_of reports
             → OnOk result (self.new ≡ findings_of (reports ++ report.now ∷ [])) }
@@ -60,21 +62,21 @@ impl Dossier {
         };
         let pair = PairKey {
             id: report.id,
-            recipient: recipient.copy(alloc)?,
+            recipient: recipient.copy(self.alloc)?,
         };
         note(&mut self.pairs, pair, decision)
     }
 
     /// The findings: one of each message and recipient of which a letter tells a decision, in the order in which they
     /// first came.
-    pub fn lines(&self, alloc: Global) -> Result<Vec<Finding>, NoMemory>
+    pub fn lines(&self) -> Result<Vec<Finding>, NoMemory>
         ensures { IfOk result (λ lines. lines.items ≡ self.now) }
     {
-        let mut lines = Vec::new(alloc);
+        let mut lines = Vec::new(self.alloc);
         for (pair, decision) in self.pairs.iter() {
             lines.push(Finding {
                 id: pair.id,
-                recipient: pair.recipient.copy(alloc)?,
+                recipient: pair.recipient.copy(self.alloc)?,
                 decision: *decision,
             })?;
         }

@@ -101,7 +101,7 @@ fn finds_at(
     wanted: &[(&str, Option<Decision>)],
 ) -> bool {
     let mut dossier = Dossier::new(alloc);
-    are_added(alloc, house, &mut dossier, saved) && has_lines(alloc, &dossier, wanted)
+    are_added(alloc, house, &mut dossier, saved) && has_lines(&dossier, wanted)
 }
 
 /// Adds what letters say. Whether all of them are genuine.
@@ -116,13 +116,13 @@ fn are_added(alloc: Global, house: &House, dossier: &mut Dossier, saved: &[Saved
 
 fn is_added(alloc: Global, house: &House, dossier: &mut Dossier, saved: &Saved) -> bool {
     match house.check_letter(alloc, saved) {
-        Ok(report) => dossier.add(alloc, &report).is_ok(),
+        Ok(report) => dossier.add(&report).is_ok(),
         Err(_) => false,
     }
 }
 
-fn has_lines(alloc: Global, dossier: &Dossier, wanted: &[(&str, Option<Decision>)]) -> bool {
-    match dossier.lines(alloc) {
+fn has_lines(dossier: &Dossier, wanted: &[(&str, Option<Decision>)]) -> bool {
+    match dossier.lines() {
         Ok(lines) => are_found(&lines, wanted),
         Err(_) => false,
     }

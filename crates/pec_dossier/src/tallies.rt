@@ -54,7 +54,7 @@ impl Tally {
         match check(alloc, sealer, directory, message) {
             Ok(report) => {
                 let text = genuine_text(alloc, directory, number, &report)?;
-                self.findings.add(alloc, &report)?;
+                self.findings.add(&report)?;
                 self.genuine += 1;
                 Ok(text)
             }
@@ -72,7 +72,7 @@ impl Tally {
         ensures { IfOk result (λ text. text.items ≡ summary_text (providers_of directory.now) self.now) }
     {
         lines_are_put_in_their_order();
-        let findings = self.findings.lines(alloc)?;
+        let findings = self.findings.lines()?;
         let page = findings_page(alloc, directory, &findings)?;
         let page = add_counts(page, self.genuine, self.refused)?;
         Ok(page.text)

@@ -32,4 +32,5 @@ pub use opening::Form;
 pub use pec_provider::{
     Provider, Summary, SwapFault, a_trade_says_what_its_parts_say, sealer_of, the_texts_are_a_trade,
 };
+pub use pec_types::Turn;
 pub use turns::{Taken, take_turn};

@@ -48,6 +48,7 @@ pub use drafts::Draft;
 pub use faults::DraftFault;
 pub use laws::{a_directory_has_a_trade, what_is_kept_goes_on};
 pub use pair_rows::Row;
+pub use pec_types::{BookLine, ItemKind, ItemLine};
 pub use preparing::moment_of;
 pub use reading::recipients_named;
 pub use ready::Ready;

@@ -4,7 +4,7 @@ use crate::directories::Directory;
 use crate::running::{Case, Run, first_wrong};
 use pec_top::Status;
 
-static FIRST: [Case; 3] = [
+static FIRST: [Case; 4] = [
     Case {
         why: "a message is accepted, and stands open in its sender's book",
         directory: Directory::Alfa,
@@ -51,6 +51,18 @@ static FIRST: [Case; 3] = [
                      I0 bob@beta.example primary 1704186000 - - - open\n\
                      I0 carl@beta.example copy 1704186000 - - - open\n\
                      I1 bob@beta.example primary 1704186000 - - - open\nbook 3\n",
+            status: Status::Done,
+        }],
+    },
+    Case {
+        why: "a book has the certified recipients of a message alone",
+        directory: Directory::Two,
+        failing: &[],
+        runs: &[Run {
+            form: "run",
+            script: "submit alfa 1704186000 alice@alfa.example bob@beta.example,x@posta.example \
+                     {From: alice@alfa.example|To: bob@beta.example, x@posta.example||}\nbook alice@alfa.example\n",
+            output: "accepted I0\nI0 bob@beta.example primary 1704186000 - - - open\nbook 1\n",
             status: Status::Done,
         }],
     },

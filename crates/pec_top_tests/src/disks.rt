@@ -262,20 +262,40 @@ fn runs_go_on_where_others_left(rt: HostRuntime) {
     }
 }
 
-/// Over journals that another directory made, the two digests are told, each in 64 hexadecimal digits.
+const ACCEPTED: &str = "submit alfa 1704186000 alice@alfa.example anna@alfa.example {M1}\n\
+     book alice@alfa.example\n";
+
+/// The directory of the journal and the one that was handed in, by their digests, as `sha256sum` (GNU coreutils) gives
+/// them for the canonical texts.
+const OTHER_DIRECTORY: &str = "not-fit alfa directory \
+     382842eb27fc4863799e5b5a5239ef613d361ca4805f777f96ac7db1a6cf3c0e \
+     a4a8bdb047fa7547d26256fe9f83978b88c42d9331f2400d754b83fdc7ee1f98\n";
+
+/// Over a journal that another directory made, the two digests are told.
 #[test]
 fn a_journal_of_another_directory_is_not_opened(rt: HostRuntime) {
     assert!(rt; is_refused_under_another(&rt));
 }
 
-/// Whether a run under the directory of alfa alone is refused so over disks on which a run under that of two made
-/// journals.
+/// Whether a run is refused so, over the disk of one with another quota of anna.
 fn is_refused_under_another(rt: &impl System) -> bool {
-    let mut depot = depot_failing(rt.alloc(), &[]);
-    let first = played(rt, &mut depot, two(), "run", "");
-    let again = played(rt, &mut depot, alfa(), "resume", "");
-    first.status == Status::Done
-        && again.status == Status::NotFit
-        && again.text.starts_with(b"not-fit alfa directory ")
-        && again.text.len() == 23 + 64 + 1 + 64 + 1
+    let alloc = rt.alloc();
+    let whose = "\"anna@alfa.example\"\nquota = ";
+    let (old, new) = (
+        joined(alloc, &[whose, "100"]),
+        joined(alloc, &[whose, "99"]),
+    );
+    let Ok(other) = alfa().replace(alloc, old.as_str(), new.as_str()) else {
+        return false;
+    };
+    let mut depot = depot_failing(alloc, &[]);
+    let first = played(rt, &mut depot, alfa(), "run", ACCEPTED);
+    let again = played(
+        rt,
+        &mut depot,
+        other.as_str(),
+        "resume",
+        "book alice@alfa.example\n",
+    );
+    first.status == Status::Done && again.is(OTHER_DIRECTORY.as_bytes(), Status::NotFit)
 }

@@ -8,7 +8,7 @@ use std::alloc::Global;
 
 const ROW: &str = "submit alfa 1704186000 alice@alfa.example anna@alfa.example {M1}\n";
 
-static FIRST: [Case; 3] = [
+static FIRST: [Case; 4] = [
     Case {
         why: "a message that breaks a row of the table of admission isn't accepted",
         directory: Directory::Two,
@@ -21,6 +21,17 @@ static FIRST: [Case; 3] = [
                      book anna@alfa.example\nmailbox anna@alfa.example\n",
             output: "not-accepted I0 reverse-path\nnot-accepted I1 bcc\nnot-accepted J0 from\nbook 0\n\
                      0 non-acceptance I1 -\nmailbox 1\n",
+            status: Status::Done,
+        }],
+    },
+    Case {
+        why: "a message that names no sender isn't accepted, and is the first of its provider",
+        directory: Directory::Two,
+        failing: &[],
+        runs: &[Run {
+            form: "run",
+            script: "submit alfa 1704186000 alice@alfa.example a@b VG86IGFAYgoK\n",
+            output: "not-accepted I0 from\n",
             status: Status::Done,
         }],
     },

@@ -9,7 +9,8 @@ use pec_top::Status;
 use pec_trial::{alfa, two};
 use std::alloc::Global;
 
-const RUN: &str = "submit alfa 1704186000 alice@alfa.example anna@alfa.example {M1}\n";
+const RUN: &str = "submit alfa 1704186000 alice@alfa.example anna@alfa.example {M1}\n\
+     book alice@alfa.example\n";
 
 const HAND_IN: &str = "POST /mail/alice@alfa.example/submit HTTP/1.1|x-key: chiave-alice|\
      x-path: anna@alfa.example|content-length: 73||\
