@@ -9,18 +9,28 @@ import zoneinfo
 
 END = 4_102_444_800
 DAY = re.compile(r"([0-9]{4})-([0-9]{2})-([0-9]{2})")
+# The shape of a rule; the standard library knows which numbers are of a calendar.
+NAME, MINUTES = "(?:[A-Za-z]{3,15}|<[A-Za-z0-9+-]{3,15}>)", "(?::[0-5][0-9](?::[0-5][0-9])?)?"
+CHANGE = rf",(?:J?[0-9]{{1,3}}|M[0-9]{{1,2}}\.[0-9]\.[0-9])(?:/[+-]?[0-9]{{1,3}}{MINUTES})?"
+RULE = re.compile(rf"{NAME}[+-]?[0-9]{{1,2}}{MINUTES}(?:{NAME}(?:[+-]?[0-9]{{1,2}}{MINUTES})?{CHANGE}{CHANGE})?")
 MONTHS = "January February March April May June July August September October November December".split()
 
 
 @functools.cache
 def zone(rule):
     """The zone of a rule. ValueError where it is none."""
+    if not RULE.fullmatch(rule):
+        raise ValueError("it hasn't the shape of a rule")
     front = b"TZif2" + bytes(15) + struct.pack(">6l", 0, 0, 0, 0, 1, 4) + struct.pack(">lbb", 0, 0, 0) + b"UTC\0"
     return zoneinfo.ZoneInfo.from_file(io.BytesIO(front + front + b"\n" + rule.encode("ascii") + b"\n"), rule)
 
 
 def at(moment, rule):
-    return datetime.datetime.fromtimestamp(int(moment), zone(rule))
+    """The moment on a clock of the zone; on one of UTC where the library has no clock so far from it."""
+    try:
+        return datetime.datetime.fromtimestamp(int(moment), zone(rule))
+    except ValueError:
+        return datetime.datetime.fromtimestamp(int(moment), datetime.UTC)
 
 
 def stamp(moment, rule):

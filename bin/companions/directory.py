@@ -15,6 +15,7 @@ LONGEST, MOST_PROVIDERS, MOST_ACCOUNTS, LIMIT = 1_048_576, 16, 10_000, 31_457_28
 PROVIDER = ("name", "mailReceipt", "managedDomains", "key", "zone", "limit", "account")
 ACCOUNT = ("address", "quota", "key")
 HEADER = re.compile(r"[ \t]*\[\[[ \t]*provider[ \t]*(\.[ \t]*account[ \t]*)?\]\]")
+LIKE_LDIF = re.compile(rb"\s*(?:#[^\n]*\s+)*(?:\xef\xbb\xbf)?(?:version:|dn:)")
 FIELD = re.compile(r"""[ \t]*("?)([A-Za-z0-9_-]+)\1[ \t]*=""")
 
 
@@ -122,7 +123,9 @@ class Directory:
         return tables
 
     def not_toml(self, place, words):
-        if re.match(rb"\s*(#[^\n]*\s+)*(\xef\xbb\xbf)?(version:|dn:)", self.text):
+        found = LIKE_LDIF.match(self.text)
+        if found:
+            place = (self.text[: found.end()].count(b"\n") + 1, None)
             words = "it looks like LDIF, whose first line has to be exactly `version: 1`"
         self.fault("refused directory not-toml", place, words)
 
