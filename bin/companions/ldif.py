@@ -5,7 +5,7 @@ import binascii
 import re
 
 FIRST = re.compile(rb"version: *1")
-ATTRIBUTE = re.compile(rb"([A-Za-z0-9][A-Za-z0-9\-;.]*):(?:: *([^\n]*)|( *)((?![:<])[\x01-\x7f]*))", re.DOTALL)
+ATTRIBUTE = re.compile(rb"([A-Za-z0-9][A-Za-z0-9\-;.]*):(?:: *+(.*)| *+((?![:<])[\x01-\x7f]*))", re.DOTALL)
 PROVIDER = {"name": "pecname", "mailReceipt": "mailreceipt", "managedDomains": "manageddomains", "key": "peckey",
             "zone": "peczone", "limit": "peclimit"}
 ACCOUNT = {"address": "pecaddress", "quota": "pecquota", "key": "peckey"}
@@ -61,11 +61,11 @@ def lines(text):
 def attribute(line):
     """The name in lower case, and the value of a line."""
     found = ATTRIBUTE.fullmatch(line.text)
-    if found is None or (found.group(4) is not None and re.search(rb"[\r\n]", found.group(4))):
+    if found is None or found.group(3) is not None and b"\r" in found.group(3):
         raise Wrong(f"ldif syntax {line.place}", line.number, "it is no `name: value` and no `name:: BASE64`")
     name = found.group(1).decode().lower()
     if found.group(2) is None:
-        return name, found.group(4).decode()
+        return name, found.group(3).decode()
     try:
         return name, base64_of(found.group(2)).decode()
     except (ValueError, binascii.Error):
