@@ -7,18 +7,18 @@ from place import PROGRAM, companion, example, files, ran
 
 
 def of_deliveries(folder, directory):
-    kept = files(folder, ".journal")
-    seen = companion("fate", "pec.0000001@alfa.example", given=directory, folder=folder)
+    kept, how = files(folder, ".journal"), {"given": directory, "folder": folder}
+    seen = companion("fate", "pec.0000001@alfa.example", **how)
     seen.must(0, 'pec.0000001@alfa.example from alice@alfa.example: Disdetta del "Contratto 12", recesso',
               "bob@beta.example: delivered; 2 January 2024, 10:00:02 +0100; taken in charge 2 January 2024, 10:00:03 +0100")
     lines = [line for line in seen.text().split("\n") if line.startswith("  2024")]
     order = ["alfa accepts", "beta takes charge", "beta decides", "alfa hears that beta", "alfa hears of", "beta hears"]
-    if [one for one, line in zip(order, lines) if line.startswith("  2024-01-02 10:00:0") and one in line] != order or len(lines) != 6:
+    if len(lines) != 6 or not all(one in line and "2024-01-02 10:00:0" in line for one, line in zip(order, lines)):
         seen.fail("other lines are wanted, in their order")
-    companion("fate", "pec.0000002@alfa.example", given=directory, folder=folder).must(0, "not delivered: nobody has the address")
-    companion("fate", "pec.0000003@alfa.example", given=directory, folder=folder).must(0, "another account handed it in")
-    companion("fate", "pec.0000009@alfa.example", given=directory, folder=folder).must(1, err=["has a message pec.0000009"], exact=b"")
-    companion("fate", "0000001", given=directory, folder=folder).must(2, err=["is no name of a message"])
+    companion("fate", "pec.0000002@alfa.example", **how).must(0, "not delivered: nobody has the address")
+    companion("fate", "pec.0000003@alfa.example", **how).must(0, "another account handed it in")
+    companion("fate", "pec.0000009@alfa.example", **how).must(1, err=["has a message pec.0000009"], exact=b"")
+    companion("fate", "0000001", **how).must(2, err=["is no name of a message"])
     companion("fate", "pec.0000001@alfa.example", "--in", folder, given=directory, folder="/").must(0, exact=seen.out)
     if files(folder, ".journal") != kept:
         seen.fail("a journal was changed")

@@ -59,14 +59,20 @@ def of_shell(prefix):
     """The man page, and what bash completes."""
     page = os.path.join(prefix, "share", "man", "man1", "pec.1")
     if shutil.which("man"):
-        ran(["man", "-l", page], env={"PATH": PATH, "MANPAGER": "cat", "MANWIDTH": "80"}).must(0, "pec run < INPUT", "pec-letter submit")
+        env = {"PATH": PATH, "MANPAGER": "cat", "MANWIDTH": "80"}
+        ran(["man", "-l", page], env=env).must(0, "pec run < INPUT", "pec-letter submit")
     else:
         print("man: left out, since it isn't installed")
     completions = os.path.join(prefix, "share", "bash-completion", "completions")
-    for name, words, wanted in [("pec", "pec re", "resume"), ("pec", "pec help vault-", "vault-show"), ("pec-letter", "pec-letter su", "submit"),
-                                ("pec-log", "pec-log 2024-01-02 --o", "--of"), ("pec-verify", f"pec-verify {prefix}/li", f"{prefix}/lib")]:
-        split = words.split(" ")
-        shell = f". {completions}/{name}; COMP_WORDS=({words}); COMP_CWORD={len(split) - 1}; "
+    for words, wanted in [
+        ("pec re", "resume"),
+        ("pec help vault-", "vault-show"),
+        ("pec-letter su", "submit"),
+        ("pec-log 2024-01-02 --o", "--of"),
+        (f"pec-verify {prefix}/li", f"{prefix}/lib"),
+    ]:
+        name, count = words.split(" ")[0], words.count(" ")
+        shell = f". {completions}/{name}; COMP_WORDS=({words}); COMP_CWORD={count}; "
         shell += f"$(complete -p {name} | sed 's/.*-F \\([a-z_]*\\) .*/\\1/'); echo \"${{COMPREPLY[@]}}\""
         ran(["bash", "-c", shell]).must(0, exact=wanted.encode() + b"\n")
 

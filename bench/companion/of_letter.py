@@ -33,7 +33,11 @@ def of_refusals(folder):
     name = put(folder, "m", MESSAGE.replace(b"Subject", b"Bcc: x@y.example\r\nSubject"))
     words = ["submit", "alfa", "0", "anna@alfa.example", name]
     companion("letter", *words).must(0, "submit alfa 0", err=["its From is alice@alfa.example, and the account is anna", "Bcc"])
-    for wrong, said in [(b"x", "no empty line ends its head"), (b"From: a@b\r\n\r\n", "its To is no list"), (b"?\r\n\r\n", "is no field")]:
+    for wrong, said in [
+        (b"x", "no empty line ends its head"),
+        (b"From: a@b\r\n\r\n", "its To is no list"),
+        (b"?\r\n\r\n", "is no field"),
+    ]:
         companion("letter", "submit", "alfa", "0", "a@b.example", "-", given=wrong).must(1, err=[said], exact=b"")
     companion("letter", "submit", "alfa", "yesterday", "a@b.example", name).must(2, err=["is no moment"])
     companion("letter", "submit", "alfa", "0", "nobody", name).must(2, err=["is no address"])
@@ -57,8 +61,8 @@ def of_save():
         texts = [base64.b64decode(line) for line in shown.text().split("\n")[:-1]]
         saved = os.path.join(folder, "saved")
         told = companion("letter", "save", saved, given=b"ticked\nlost\n" + shown.out).must(0)
-        names = [f"{one}@{two}.example.eml" for one, two in [("acceptance-acc.0.0000000", "alfa"), ("delivery-avc.0.0000000.0", "beta"),
-                                                             ("envelope-pec.0000000", "alfa")]]
+        names = ["acceptance-acc.0.0000000@alfa", "delivery-avc.0.0000000.0@beta", "envelope-pec.0000000@alfa"]
+        names = [f"{one}.example.eml" for one in names]
         if told.text().split("\n")[:-1] != [os.path.join(saved, one) for one in names] or files(saved) != dict(zip(names, texts)):
             told.fail("other files are wanted")
         companion("letter", "save", saved, given=shown.out).must(0, err=["was there already, with the same bytes"])

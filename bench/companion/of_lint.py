@@ -14,13 +14,15 @@ LDIF = example("registry.pec").partition(b"%%\n")[0]
 SCRIPT = DELIVERY.partition(b"%%\n")[2]
 TEXTS = [DIRECTORY, DIRECTORY + b"limit = 9\n", LDIF]
 # What stands in lines, for other things to be put in its place.
-PIECES = [b"", b" ", b"0", b"-1", b"1704186000", b"99999999999", b"beta", b"alfa", b"@", b"a@b", b"alice@alfa.example", b"bob@beta.example",
-          b'"', b"[", b"=", b"#", b":", b": ", b"::", b"<", b"UTC0", b"CET-1CEST", b"EST5EDT,M3.2.0,M11.1.0", b"\xff", b"\r", b"\n", b"A" * 40]
-ZONES = ["UTC0", "CET-1CEST,M3.5.0,M10.5.0/3", "EST5EDT,J60,J300", "EST5EDT,0,300/25", "<+0330>-3:30", "<UTC>0", "A0", "AB0", "CET-25",
-         "CET-24:59:59", "CET-1CEST", "CET-1,M3.5.0,M10.5.0", "Europe/Rome", ":UTC", "CET-1CEST,M13.1.0,M10.5.0", "CET-1CEST,M3.6.0,M10.5.0",
-         "CET-1CEST,M3.5.7,M10.5.0", "CET-1CEST,M3.5.0/168,M10.5.0", "CET-1CEST,M3.5.0/-167,M10.5.0", "CET-1CEST,J0,J300", "CET-1CEST,366,1",
-         "CET-1CEST,M3.5.0,M10.5.0x", "CET+1", "C1T0", "CET-1CEST-2,M3.5.0,M10.5.0", "CET-1:60", "CET-01", "CET-001", "CET-1CEST,M03.5.0,M10.5.0",
-         "X" * 31 + "0", "UTC", "UTC0,M3.5.0,M10.5.0", "CET-1CEST,M3.5.0/3:00:00,M10.5.0/2:60", "CET-1CEST,M3.5.0/+2,M10.5.0", "<+00>0", "<é>0"]
+PIECES = b"0 -1 1704186000 99999999999 beta alfa @ a@b alice@alfa.example bob@beta.example \" [ = # : :: < UTC0 CET-1CEST".split()
+PIECES += [b"", b" ", b": ", b"\xff", b"\r", b"\n", b"A" * 40]
+ZONES = """
+UTC0 UTC :UTC CET+1 C1T0 A0 AB0 CET-01 CET-001 CET-25 CET-24:59:59 CET-1:60 Europe/Rome <UTC>0 <+00>0 <é>0 <+0330>-3:30
+CET-1CEST CET-1,M3.5.0,M10.5.0 CET-1CEST,M3.5.0,M10.5.0/3 CET-1CEST-2,M3.5.0,M10.5.0 CET-1CEST,M3.5.0,M10.5.0x
+CET-1CEST,M13.1.0,M10.5.0 CET-1CEST,M3.6.0,M10.5.0 CET-1CEST,M3.5.7,M10.5.0 CET-1CEST,M03.5.0,M10.5.0 UTC0,M3.5.0,M10.5.0
+CET-1CEST,M3.5.0/168,M10.5.0 CET-1CEST,M3.5.0/-167,M10.5.0 CET-1CEST,M3.5.0/+2,M10.5.0 CET-1CEST,M3.5.0/3:00:00,M10.5.0/2:60
+CET-1CEST,J0,J300 CET-1CEST,366,1 EST5EDT,J60,J300 EST5EDT,0,300/25 AAAAAAAAAAAAAAA0 AAAAAAAAAAAAAAAA0 <AAAAAAAAAAAAAAAA>0
+""".split()
 
 
 def told(seen):
@@ -30,18 +32,19 @@ def told(seen):
 
 def of_places():
     """Each fault with its line and column, and what it means."""
+    carl = "provider 1, `beta`, account 2, `carl@beta.example`"
     for old, new, said in [
         (b'name = "beta"', b'name = "Beta"', "f:16:1: provider 1, `Beta`: `name` has to be 1 to 32 lower-case letters"),
-        (b"quota = 1\n", b"  quota = -1\n", "f:27:3: provider 1, `beta`, account 2, `carl@beta.example`: `quota` has to be a number from 0"),
-        (b'"carl@beta.example"', b'"carl@gamma.example"', "f:26:1: provider 1, `beta`, account 2, `carl@gamma.example`: its address isn't in"),
+        (b"quota = 1\n", b"  quota = -1\n", f"f:27:3: {carl}: `quota` has to be a number from 0"),
+        (b'"carl@beta.example"', b'"carl@x.example"', f"f:26:1: {carl.replace('beta.', 'x.')}: its address isn't in one"),
         (b'key = "1011', b'key = "10 11', "f:19:1: provider 1, `beta`: `key` has to be 32 to 128 hexadecimal digits"),
         (b"quota = 1\n", b"quota = 1\nquta = 5\n", "f:28:1: note: `quta` isn't looked at: is it `quota`?"),
-        (b'"carl@beta.example"', b'"bob@beta.example"', "f:26:1: provider 1, `beta`, account 2, `bob@beta.example`: its address is taken"),
+        (b'"carl@beta.example"', b'"bob@beta.example"', f"f:26:1: {carl.replace('carl', 'bob')}: its address is taken"),
         (b"[[provider.account]]", b"[[provider.account]", "it is no TOML"),
     ]:
         given_lint(DIRECTORY.replace(old, new, 1), "note:" not in said, said)
     for old, new, said in [
-        (b"pecQuota: 100", b"pecQuota: many", "f:57: provider 0, `alfa`, account 1, `alice@alfa.example`: `quota` has to be a number"),
+        (b"pecQuota: 100", b"pecQuota: many", "f:57: provider 0, `alfa`, account 1, `alice@alfa.example`: `quota` has to be"),
         (b"version: 1", b"version: 2", "f:1: it looks like LDIF, whose first line has to be exactly `version: 1`"),
         (b"pecName: alfa", b"pecName alfa", "it is no `name: value`"),
         (b"pecQuota: 100", b"pecQuotas: 100\npecQuota: 100", "note: `pecquotas` isn't looked at: is it `pecquota`?"),
@@ -70,9 +73,10 @@ def of_scripts():
         seen.fail("one fault is wanted")
     given_lint(front + b"tick alfa 9\ntick beta 8\ntick alfa 8\n", False, "f:32: note: the moment 8 is before 9")
     given_lint(front + submit.replace(b" alice@", b" nobody@", 1) + b"\n", False, "nobody@alfa.example is no account of alfa")
-    given_lint(front + b"# x\n\ntick gamma 1\nrond 1\n", True, "f:32: word 2, `gamma`, is no provider of the directory: alfa, beta",
-               "f:33: `rond` is no command")
-    given_lint(front + b"\nAAA=\nAA\n", True, "f:32: it isn't the base64 of one letter [refused line 3 bad-base64 1]", words=["--dossier"])
+    gamma = "f:32: word 2, `gamma`, is no provider of the directory: alfa, beta"
+    given_lint(front + b"# x\n\ntick gamma 1\nrond 1\n", True, gamma, "f:33: `rond` is no command")
+    wrong = "f:32: it isn't the base64 of one letter [refused line 3 bad-base64 1]"
+    given_lint(front + b"\nAAA=\nAA\n", True, wrong, words=["--dossier"])
     given_lint(DIRECTORY, True, "[refused no-script]", words=["--dossier"])
     companion("lint", "-", given=DELIVERY).must(0, exact=b"")
     companion("lint", "-", given=DIRECTORY.replace(b"alfa.example\"]", b"\\u0061lfa.example\"]")).must(0, exact=b"")
@@ -127,8 +131,9 @@ def of_zones():
 def of_lines(chance, count):
     """Scripts of a few lines, played in a folder of their own."""
     refused = 0
-    lines = SCRIPT.rstrip(b"\n").split(b"\n") + [b"tick alfa 1704186001", b"lose alfa beta 0", b"inject alfa beta QUFB", b"crash alfa",
-                                                b"archive bob@beta.example 1704186001 0", b"show bob@beta.example 0", b"screen alfa 0"]
+    lines = SCRIPT.rstrip(b"\n").split(b"\n")
+    lines += [b"tick alfa 1704186001", b"lose alfa beta 0", b"inject alfa beta QUFB", b"crash alfa", b"screen alfa 0"]
+    lines += [b"archive bob@beta.example 1704186001 0", b"show bob@beta.example 0"]
     for _ in range(count):
         script = changed(chance, b"\n".join(chance.sample(lines, 4)))
         text = DIRECTORY + b"%%\n" + script
@@ -145,4 +150,5 @@ def play(count=150, seed=1):
     of_zones()
     chance = random.Random(seed)
     directories, lines = of_directories(chance, count), of_lines(chance, count)
-    print(f"lint: {count} directories and {count} scripts from seed {seed}, {directories} and {lines} of them refused, as the program does")
+    refused = f"{directories} and {lines} of them refused"
+    print(f"lint: {count} directories and {count} scripts from seed {seed}, {refused}: the program says the same of each")

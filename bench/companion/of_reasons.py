@@ -87,9 +87,10 @@ def of_journals():
 
     both(["run"], 8, "there are journals in", "`resume` goes on with them", given=DELIVERY, make=has())
     both(["serve", "1"], 8, "would be a journal", given=DIRECTORY, make=lambda folder: put(folder, "pec-0.journal", b"x" * 90))
-    both(["extract", "0", "1"], 9, "the directory is another", "and this one has", "its quota or its key", file=OTHER, make=has())
+    changed = "its quota or its key has changed"
+    both(["extract", "0", "1"], 9, "the directory is another", "and this one has", changed, file=OTHER, make=has())
     both(["extract", "0", "1"], 9, "where the line says `directory`", given=OTHER, make=has())
-    both(["extract", "0", "1"], 9, "an entry doesn't follow", file=DIRECTORY, make=grown)
+    both(["extract", "0", "1"], 9, "an entry doesn't follow", "something else wrote", file=DIRECTORY, make=grown)
     both(["extract", "0", "1"], 9, "pec-1.journal is no whole journal", given=DIRECTORY, make=cut)
     both(["extract", "0", "1"], 9, "pec-1.journal is empty", "wasn't there", given=DIRECTORY, make=has("pec-1.journal"))
     both(["run"], 7, "pec-0.journal is a link to", given=DELIVERY,
@@ -124,9 +125,13 @@ def of_disks():
         with tempfile.TemporaryDirectory() as folder:
             shell = f"mount -t tmpfs -o {how} none {folder} && cd {folder} && {words} run"
             ran(["unshare", "-m", "sh", "-c", shell], DELIVERY).must(status, err=[said]).fits()
-    limit = {"preexec_fn": lambda: (signal.signal(signal.SIGXFSZ, signal.SIG_IGN), resource.setrlimit(resource.RLIMIT_FSIZE, (1024, 1024)))}
+
+    def limited():
+        signal.signal(signal.SIGXFSZ, signal.SIG_IGN)
+        resource.setrlimit(resource.RLIMIT_FSIZE, (1024, 1024))
+
     with tempfile.TemporaryDirectory() as folder:
-        told = ran([*REASONS, "run"], DELIVERY, folder, restore_signals=False, **limit)
+        told = ran([*REASONS, "run"], DELIVERY, folder, restore_signals=False, preexec_fn=limited)
         told.must(0, "down", err=["files may have 1,024 bytes here and no more"])
 
 

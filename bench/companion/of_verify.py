@@ -31,17 +31,23 @@ def sealed(name, key, text):
 def forged(delivery, name, key):
     """What somebody with a key makes of a receipt of delivery: that the mailbox was full."""
     text = delivery.partition(b"\r\n")[2]
-    text = text.replace(b"X-Ricevuta: avvenuta-consegna", b"X-Ricevuta: errore-consegna").replace(b"X-TipoRicevuta: completa\r\n", b"")
-    text = text.replace(b'avvenuta-consegna" errore="nessuno"', b'errore-consegna" errore="altro"')
-    text = text.replace(b'<ricevuta tipo="completa"/>\r\n', b"").replace(b"</dati>", b"<errore-esteso>mailbox-full</errore-esteso>\r\n</dati>")
-    return sealed(name, key, text.replace(b"<gestore-emittente>beta", b"<gestore-emittente>" + name))
+    for old, new in [
+        (b"X-Ricevuta: avvenuta-consegna", b"X-Ricevuta: errore-consegna"),
+        (b"X-TipoRicevuta: completa\r\n", b""),
+        (b'avvenuta-consegna" errore="nessuno"', b'errore-consegna" errore="altro"'),
+        (b'<ricevuta tipo="completa"/>\r\n', b""),
+        (b"</dati>", b"<errore-esteso>mailbox-full</errore-esteso>\r\n</dati>"),
+        (b"<gestore-emittente>beta", b"<gestore-emittente>" + name),
+    ]:
+        text = text.replace(old, new)
+    return sealed(name, key, text)
 
 
 def of_genuine(folder, letters):
     said = companion("verify", "directory", *letters, folder=folder)
     said.must(0, "delivery.eml: genuine, receipt of delivery", "sealed by beta, 2 January 2024, 10:00:02 +0100 (1704186002)",
               "certifies beta placed the message in the mailbox of bob@beta.example", "certifies alfa accepted the message",
-              "proved: pec.0000000@alfa.example to bob@beta.example: delivered, 2 January 2024, 10:00:02 +0100", "3 genuine, 0 refused")
+              "proved: pec.0000000@alfa.example to bob@beta.example: delivered, 2 January 2024", "3 genuine, 0 refused")
     # a directory in LDIF, and one with a script behind it
     for name in ("registry.pec", "delivery.pec"):
         companion("verify", os.path.join(EXAMPLES, name), "delivery.eml", folder=folder).must(0, "1 genuine, 0 refused")
@@ -63,7 +69,8 @@ def of_spoilt(folder, letters):
         put(folder, name, text)
         companion("verify", "directory", name, folder=folder).must(1, f"{name}: REFUSED [refused 0 seal]", said, "stays as it is")
     put(folder, "changed", delivery.replace(b"Salve", b"Valse"))
-    told = companion("verify", "directory", "delivery.eml", "changed", folder=folder).must(1, "changed: REFUSED", "1 genuine, 1 refused")
+    told = companion("verify", "directory", "delivery.eml", "changed", folder=folder)
+    told.must(1, "changed: REFUSED", "1 genuine, 1 refused")
     if "would be genuine" in told.text():
         told.fail("a changed letter can't be helped")
 
@@ -82,7 +89,8 @@ def of_forged(folder, letters):
 def of_troubles(folder):
     companion("verify", "directory", "nowhere", folder=folder).must(3, err=["nowhere can't be read"], exact=b"")
     put(folder, "wrong", DIRECTORY.replace(b"quota = 1\n", b"quota = -1\n"))
-    companion("verify", "wrong", "delivery.eml", folder=folder).must(3, err=["wrong, line 27, column 1", "`quota` has to be"], exact=b"")
+    wrong = companion("verify", "wrong", "delivery.eml", folder=folder)
+    wrong.must(3, err=["wrong, line 27, column 1", "`quota` has to be"], exact=b"")
     companion("verify", "directory", folder=folder).must(2)
     env = {**os.environ, "PEC": "/nowhere/pec"}
     companion("verify", "directory", "delivery.eml", folder=folder, env=env).must(3, err=["the program can't be run"], exact=b"")

@@ -33,9 +33,13 @@ def of_help():
 def of_a_word():
     pec = os.path.join(BIN, "pec")
     for word, said in [
-        ("run", "makes the providers' journals"), ("swap", "loses a frame on a link; also repeat, swap"),
-        ("noticed-late", "no outcome for more than 24 hours"), ("bcc", "bcc (it has a blind copy)"), ("7", "or another program that has it"),
-        ("not-fit", "its journal is of a directory with another digest"), ("letter", "letter --help says more"),
+        ("run", "makes the providers' journals"),
+        ("swap", "loses a frame on a link; also repeat, swap"),
+        ("noticed-late", "no outcome for more than 24 hours"),
+        ("bcc", "bcc (it has a blind copy)"),
+        ("7", "or another program that has it"),
+        ("not-fit", "its journal is of a directory with another digest"),
+        ("letter", "letter --help says more"),
     ]:
         fits(ran([pec, "help", word]).must(0, said))
     ran([pec, "help", "nothing-like-it"]).must(1, err=["nothing is said of"])

@@ -51,7 +51,7 @@ does() {
 # What was written and told last has each of these words; a line may be folded anywhere.
 says() {
     for one in "$@"; do
-        tr -s ' \n' '  ' < written | grep -qF -- "$one" || tr -s ' \n' '  ' < told | grep -qF -- "$one" || fail "it doesn't say: $one"
+        cat written told | tr -s ' \n' '  ' | grep -qF -- "$one" || fail "it doesn't say: $one"
     done
 }
 

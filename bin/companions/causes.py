@@ -81,15 +81,14 @@ def left(before, status):
     new = [one for one in JOURNALS if one not in before.journals and os.path.lexists(one)]
     if not new:
         return
-    named = ", ".join(new)
     if before.form in ("resume", "extract"):
-        yield f"{named} wasn't there, and is an empty file now: it can be removed"
-    elif all(journals.Front(one).entries < 2 for one in new):
-        yield f"new journals were left in {os.getcwd()}: {named}. Nothing was played in them: they can be removed, and `run` wants " \
-            "that, or `resume` goes on with them"
+        yield f"{', '.join(new)} wasn't there, and is an empty file now: it can be removed"
+        return
+    if all(journals.Front(one).entries < 2 for one in new if os.path.isfile(one)):
+        played = "Nothing was played in them: they can be removed, and `run` wants that, or `resume` goes on with them"
     else:
-        yield f"new journals were left in {os.getcwd()}: {named}. They have what was played before the end: `resume` goes on with " \
-            "them, and `run` refuses them"
+        played = "They have what was played before the end: `resume` goes on with them, and `run` refuses them"
+    yield f"new journals were left in {os.getcwd()}: {', '.join(new)}. {played}"
 
 
 def can_be_made():
@@ -156,7 +155,7 @@ def usage(before):
 
 
 def refused(before):
-    yield "the line on standard output says for what the input was refused; bin/lint FILE says it in words, with the line of the file"
+    yield "the line on standard output says for what the input was refused; bin/lint FILE says it in words, with its place"
 
 
 def no_input(before):
@@ -179,7 +178,10 @@ def no_output(before):
         yield "standard output couldn't be written: nobody reads the pipe any more"
     else:
         yield "standard output couldn't be written"
-    yield "what was played is in the journals all the same" if before.form in ("run", "resume", "serve") else "what was written is a front"
+    if before.form in ("run", "resume", "serve"):
+        yield "what was played is in the journals all the same"
+    else:
+        yield "what was written is a front"
 
 
 def polled(number):
@@ -190,7 +192,8 @@ def polled(number):
 
 def no_memory(_):
     limit = resource.getrlimit(resource.RLIMIT_AS)[0]
-    yield "there wasn't enough memory" + ("" if limit == resource.RLIM_INFINITY else f": {limit:,} bytes are allowed (ulimit -v)")
+    allowed = "" if limit == resource.RLIM_INFINITY else f": {limit:,} bytes are allowed (ulimit -v)"
+    yield f"there wasn't enough memory{allowed}"
 
 
 def no_journal(before):
@@ -204,12 +207,12 @@ def no_journal(before):
 
 
 def not_empty(before):
-    found = [one for one in JOURNALS if os.path.lexists(one) and os.path.getsize(one)]
+    found = ", ".join(one for one in JOURNALS if os.path.lexists(one) and os.path.getsize(one))
     if before.form == "serve":
-        yield f"a file of this folder that would be a journal ({', '.join(found)}) is none: another folder is wanted"
+        yield f"a file of this folder that would be a journal ({found}) is none: another folder is wanted"
     else:
-        yield f"there are journals in {os.getcwd()}: {', '.join(found)}. `resume` goes on with them; `{before.form}` wants an empty " \
-            "folder, as bin/fresh makes one"
+        other = f"`resume` goes on with them; `{before.form}` wants an empty folder, as bin/fresh makes one"
+        yield f"there are journals in {os.getcwd()}: {found}. {other}"
 
 
 def not_fit(before):
@@ -227,16 +230,14 @@ def not_fit(before):
 
 
 def other_directory(before, digests):
-    kept = ", ".join(one[:16] + ".." for one in digests if one)
-    given = digest_of_input(before)
+    kept, given = ", ".join(one[:16] + ".." for one in digests if one), digest_of_input(before)
     if given and {given} == digests:
-        yield "the directory is the one that these journals were made with, and an entry doesn't follow from those before it: " \
-            "something else wrote to a journal"
+        yield "these journals were made with this directory, and an entry doesn't follow from those before it"
+        yield "something else wrote to a journal"
         return
-    sure = "" if given else ", where the line says `directory`"
-    yield f"the directory is another than the one that these journals were made with{sure} (digest {kept}" + \
-        (f", and this one has {given[:16]}..)" if given else ")") + ": a provider, a domain, a key, a zone, a limit, an account, its " \
-        "quota or its key has changed, or this is the folder of another network"
+    sure, other = ("", f", and this one has {given[:16]}..") if given else (", where the line says `directory`", "")
+    yield f"the directory is another than the one that these journals were made with{sure} (digest {kept}{other})"
+    yield "a provider, domain, key, zone, limit, account, its quota or its key has changed, or the folder is another's"
 
 
 def digest_of_input(before):
@@ -264,10 +265,11 @@ def no_door(_):
 def listener():
     try:
         with open("/proc/net/tcp", encoding="ascii") as lines:
-            taken = any(line.split()[1:4:2] == ["0100007F:1FBD", "0A"] or line.split()[1:4:2] == ["00000000:1FBD", "0A"] for line in lines)
+            listened = {words[1] for words in map(str.split, lines) if words[3] == "0A"}
     except OSError:
         return ""
-    return ": another program listens there" if taken else ""
+    # (of this machine's own address, or of all: hexadecimal, and 1FBD is 8125)
+    return ": another program listens there" if listened & {"0100007F:1FBD", "00000000:1FBD"} else ""
 
 
 def no_read(_):
@@ -275,8 +277,22 @@ def no_read(_):
 
 
 def no_entry(_):
-    yield "an envelope that a journal keeps isn't what was taken: something else wrote to it. What was written is a front, without totals"
+    yield "an envelope that a journal keeps isn't what was taken: something else wrote to it"
+    yield "what was written is a front; there is no row `totals`"
 
 
-STATUSES = {2: usage, 3: refused, 4: no_input, 5: no_output, 6: no_memory, 7: no_journal, 8: not_empty, 9: not_fit, 10: no_clock,
-            11: no_door, 12: refused, 13: no_read, 14: no_entry}
+STATUSES = {
+    2: usage,
+    3: refused,
+    4: no_input,
+    5: no_output,
+    6: no_memory,
+    7: no_journal,
+    8: not_empty,
+    9: not_fit,
+    10: no_clock,
+    11: no_door,
+    12: refused,
+    13: no_read,
+    14: no_entry,
+}

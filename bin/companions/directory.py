@@ -90,10 +90,12 @@ class Directory:
         is_list = isinstance(self.read, list) and self.read and all(isinstance(one, dict) for one in self.read)
         if not is_list:
             if not self.faults:
-                self.fault("refused directory no-provider", None, "it has no provider: no table [[provider]], or no record of one")
+                words = "it has no provider: no table [[provider]], or no record of one"
+                self.fault("refused directory no-provider", None, words)
             return []
         if len(self.read) > MOST_PROVIDERS:
-            self.fault("refused directory too-many", None, f"it has {len(self.read)} providers, and {MOST_PROVIDERS} are the most")
+            words = f"it has {len(self.read)} providers, and {MOST_PROVIDERS} are the most"
+            self.fault("refused directory too-many", None, words)
             return []
         return self.read
 
@@ -168,7 +170,8 @@ class Directory:
             place = places.get(field, places.get(""))
             why = self.of_provider(field, table)
             if why:
-                self.fault(f"refused directory {why.format(number, field)}", place, self.field_words(field, table, FORMS[field]))
+                words = self.field_words(field, table, FORMS[field])
+                self.fault(f"refused directory {why.format(number, field)}", place, words)
         if len(self.faults) == wrong:
             self.against_others(number, table, places)
         accounts = table.get("account", [])
@@ -231,7 +234,8 @@ class Directory:
         for field in ACCOUNT:
             if not ACCOUNT_TESTS[field](one.get(field)):
                 place = places.get(field, places.get(""))
-                self.fault(f"refused directory bad-field {number} {field}", place, self.field_words(field, one, ACCOUNT_FORMS[field]))
+                words = self.field_words(field, one, ACCOUNT_FORMS[field])
+                self.fault(f"refused directory bad-field {number} {field}", place, words)
         if len(self.faults) == wrong:
             place = places.get("address", places.get(""))
             told = self.address_fault(said, table)

@@ -62,7 +62,8 @@ class Copy:
                 shutil.copyfile(os.path.join(self.folder, one), os.path.join(self.kept.name, one))
         except OSError as why:
             self.kept.cleanup()
-            raise Trouble(f"the journals can't be copied: {why.filename}: {why.strerror} (TMPDIR names another place)") from None
+            words = f"the journals can't be copied: {why.filename}: {why.strerror} (TMPDIR names another place)"
+            raise Trouble(words) from None
         return self.kept.name
 
     def __exit__(self, *_):

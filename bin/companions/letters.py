@@ -71,7 +71,8 @@ class Certificate:
     """What a certification text says, each line of which has one form."""
 
     def __init__(self, text):
-        self.pairs = [(name, html.unescape(value)) for name, value in re.findall(r"<([a-z-]+)(?: [^>]*)?>([^<\r\n]*)</\1>", text)]
+        elements = re.findall(r"<([a-z-]+)(?: [^>]*)?>([^<\r\n]*)</\1>", text)
+        self.pairs = [(name, html.unescape(value)) for name, value in elements]
         found = re.search(r'<ricevuta tipo="([a-z]+)"/>', text)
         self.wish = found.group(1) if found else None
 
