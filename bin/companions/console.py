@@ -89,6 +89,13 @@ def write_out(data):
     sys.stdout.buffer.flush()
 
 
+def built():
+    """A program that is there, the proved one where there is one, or None."""
+    places = [os.environ.get("PEC"), os.path.join(TOP, "crates", "pec", "out", "pec"), os.path.join(TOP, "out", "pec-unproved")]
+    named = places[:1] if places[0] else places[1:]
+    return next((one for one in named if os.access(one, os.X_OK)), None)
+
+
 def program():
     """The program: bin/pec, or the one that PEC names."""
     return os.path.realpath(os.environ.get("PEC") or os.path.join(TOP, "bin", "pec"))
