@@ -15,6 +15,7 @@ def of_deliveries(folder, directory):
     order = ["alfa accepts", "beta takes charge", "beta decides", "alfa hears that beta", "alfa hears of", "beta hears"]
     if len(lines) != 6 or not all(one in line and "2024-01-02 10:00:0" in line for one, line in zip(order, lines)):
         seen.fail("other lines are wanted, in their order")
+    companion("fate", "pec.0000000@alfa.example", **how).must(0, "Auguri", "bob@beta.example: delivered; 1 January 2024")
     companion("fate", "pec.0000002@alfa.example", **how).must(0, "not delivered: nobody has the address")
     companion("fate", "pec.0000003@alfa.example", **how).must(0, "another account handed it in")
     companion("fate", "pec.0000009@alfa.example", **how).must(1, err=["has a message pec.0000009"], exact=b"")

@@ -49,6 +49,7 @@ def of_inputs():
     both(["run"], 3, "They have what was played", "`resume` goes on", given=DIRECTORY + FORMS["played"])
     both(["ldif"], 12, "bin/lint FILE", given=b"#" * 1_048_577)
     both(["ldif"], 4, "standard input is closed", given=None, preexec_fn=lambda: os.close(0))
+    both(["foo"], 2, preexec_fn=lambda: os.close(2))
     told = both(["run"], 3, "bin/lint FILE", given=b"x")
     if "journals" in told.err:
         told.fail("no journal is there")
@@ -120,7 +121,7 @@ def of_disks():
     for how, status, said in [
         ("ro", 7, "no file can be made in the folder"),
         ("size=4k", 7, "nothing can be written in the folder"),
-        ("size=8k", 0, "is full; where a line `fault disk` was written"),
+        ("size=8k", 0, "is full: a command that wrote `fault disk`"),
     ]:
         with tempfile.TemporaryDirectory() as folder:
             shell = f"mount -t tmpfs -o {how} none {folder} && cd {folder} && {words} run"

@@ -36,9 +36,12 @@ class Companion:
     def __init__(self, name, guide):
         self.name, self.guide = name, guide
 
-    def tell(self, text):
-        sys.stdout.flush()
-        print(folded(f"{self.name}: {text}", "", "  "), file=sys.stderr, flush=True)
+    def tell(self, text, more=""):
+        """Says it on standard error, where that is open, behind what was written before."""
+        if sys.stdout is not None:
+            sys.stdout.flush()
+        if sys.stderr is not None:
+            print(folded(f"{self.name}: {text}", "", "  ") + more, file=sys.stderr, flush=True)
 
     def usage(self):
         """The words that it takes: the second paragraph of its guide."""
@@ -51,13 +54,13 @@ class Companion:
             print(self.guide.strip())
             sys.exit(0)
         try:
+            if sys.stdout is None:
+                raise Trouble("standard output is closed")
             status = play(words)
             sys.stdout.flush()
         except Trouble as why:
-            head, _, forms = str(why).partition("\n")
-            self.tell(head)
-            if forms:
-                print(forms, file=sys.stderr)
+            head, line, forms = str(why).partition("\n")
+            self.tell(head, line + forms)
             status = why.status
         except KeyboardInterrupt:
             status = 130
