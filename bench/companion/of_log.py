@@ -6,12 +6,15 @@ import os
 import shutil
 import subprocess
 import tempfile
+import threading
 
 from place import DIRECTORY, EXAMPLES, PROGRAM, companion, files, played, put, ran
 
 COLUMNS = "provider,entry,moment,date,event,id,sender,recipients,subject,detail".split(",")
 TOTALS = "by all providers together; 2 are delivered, 1 refused, 0 open"
 DAY = ("1704150000", "1704236399")
+# of a day whose journals grow
+LOGS = 6
 
 
 def days(folder):
@@ -74,6 +77,37 @@ def of_a_copy(folder, directory):
         cut.must(1, err=["isn't whole, or a journal of a provider is missing"], exact=b"")
 
 
+def feed(child, line, enough):
+    """Hands messages in, each at a later moment and with a round behind it, until there are enough."""
+    child.stdin.write(DIRECTORY + b"%%\n")
+    for moment in range(1_704_186_000, 1_704_196_000):
+        child.stdin.write(f"{line.replace('1704186000', str(moment))}round {moment}\n".encode())
+        child.stdin.flush()
+        if enough.wait(0.2):
+            break
+    child.stdin.close()
+
+
+def of_growing_journals():
+    """A program writes to the journals meanwhile: each log has the rows of some moment, and never fewer than the one before."""
+    with tempfile.TemporaryDirectory() as folder:
+        name = put(folder, "m", b"From: alice@alfa.example\r\nTo: bob@beta.example\r\n\r\nSalve\r\n")
+        line = companion("letter", "submit", "alfa", "1704186000", "alice@alfa.example", name).must(0).text()
+        child = subprocess.Popen([PROGRAM, "run"], cwd=folder, stdin=subprocess.PIPE, stdout=subprocess.DEVNULL)
+        enough, counts = threading.Event(), [0]
+        feeds = threading.Thread(target=feed, args=(child, line, enough))
+        feeds.start()
+        while len(counts) < LOGS and child.poll() is None:
+            seen = companion("log", "2024-01-02", given=DIRECTORY, folder=folder)
+            # (before the first entries of both there is nothing to be opened)
+            if seen.status == 0 or len(counts) > 1:
+                counts.append(len(rows_of(seen.must(0))))
+        enough.set()
+        feeds.join()
+        if child.wait() or counts != sorted(counts) or counts[-1] == counts[1]:
+            raise SystemExit(f"the program ends with {child.returncode}, and the logs have {counts} rows")
+
+
 def of_cells():
     """Subjects that a spreadsheet would take for formulas, and clock calls."""
     with tempfile.TemporaryDirectory() as folder:
@@ -96,5 +130,6 @@ def play():
         directory = days(folder)
         of_a_day(folder, directory)
         of_a_copy(folder, directory)
+    of_growing_journals()
     of_cells()
-    print("log: the day's rows are those of the extract, from journals that are held, or can't be written, and stay as they are")
+    print("log: the day's rows are those of the extract, from journals that are held, grow, or can't be written")
