@@ -15,16 +15,20 @@ _pec() {
 
 _pec_companion() {
     local name=${COMP_WORDS[0]##*/} word=${COMP_WORDS[COMP_CWORD]} before=${COMP_WORDS[COMP_CWORD - 1]}
-    local words=--help
+    local words=--help forms=
     case "${name#pec-}" in
-    letter) [ "$COMP_CWORD" = 1 ] && words='submit inject path save --help' ;;
+    letter) forms='submit inject path save' ;;
+    registry) forms='export import' ;;
+    service) forms='run health backup' ;;
     log) words='--of --in --all --help' ;;
     fate) words='--in --help' ;;
-    lint) [ "$COMP_CWORD" = 1 ] && words='--dossier --help' ;;
+    lint) words='--dossier --help' ;;
     esac
     if [ "$before" = --in ]; then
         mapfile -t COMPREPLY < <(compgen -d -- "$word")
-    elif [[ $word == -* || ${name#pec-} == letter && $COMP_CWORD == 1 ]]; then
+    elif [ -n "$forms" ] && [ "$COMP_CWORD" = 1 ]; then
+        mapfile -t COMPREPLY < <(compgen -W "$forms $words" -- "$word")
+    elif [[ $word == -* ]]; then
         mapfile -t COMPREPLY < <(compgen -W "$words" -- "$word")
     else
         mapfile -t COMPREPLY < <(compgen -f -- "$word")
@@ -32,7 +36,7 @@ _pec_companion() {
 }
 
 complete -o filenames -F _pec pec bin/pec bin/fresh bin/try
-for _pec_name in letter lint verify log fate json; do
+for _pec_name in letter lint verify log fate json registry service webmail draw install; do
     complete -o filenames -F _pec_companion "pec-$_pec_name" "bin/$_pec_name"
 done
 unset _pec_name
