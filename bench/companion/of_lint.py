@@ -64,6 +64,15 @@ def given_lint(text, is_refused, *said, words=()):
     return seen
 
 
+def of_newer_toml():
+    """A form of TOML 1.1: the program reads it, and Python's reader doesn't."""
+    fields = b'name = "alfa", mailReceipt = "ricevute@alfa.example", managedDomains = ["alfa.example"], zone = "UTC0",\n'
+    text = b"provider = [{" + fields + b'key = "000102030405060708090a0b0c0d0e0f"\n}]\n'
+    given_lint(text, True, "it is no TOML")
+    companion("lint", "-", given=text).must(0, exact=b"", err=["the program takes this directory"])
+    companion("lint", "-", given=text + b"%%\ntick beta 1\n").must(1, "`beta`, is no provider of the directory: alfa")
+
+
 def of_scripts():
     submit = next(line for line in SCRIPT.split(b"\n") if line.startswith(b"submit"))
     front = DIRECTORY + b"%%\n"
@@ -146,6 +155,7 @@ def of_lines(chance, count):
 
 def play(count=150, seed=1):
     of_places()
+    of_newer_toml()
     of_scripts()
     of_zones()
     chance = random.Random(seed)

@@ -68,7 +68,8 @@ def full(_):
     """Whether the disk has room."""
     room = os.statvfs(".")
     if not room.f_bavail or room.f_files and not room.f_favail:
-        yield f"the disk of {os.getcwd()} is full: a command that wrote `fault disk` may have been kept or not, as `resume` shows"
+        shows = "a command that wrote `fault disk` may have been kept or not, as `resume` shows"
+        yield f"the disk of {os.getcwd()} is full: {shows}"
     limit = resource.getrlimit(resource.RLIMIT_FSIZE)[0]
     if limit != resource.RLIM_INFINITY:
         yield f"files may have {limit:,} bytes here and no more (ulimit -f): past that a write is a fault of the disk"

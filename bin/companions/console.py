@@ -104,6 +104,13 @@ def program():
     return os.path.realpath(os.environ.get("PEC") or os.path.join(TOP, "bin", "pec"))
 
 
+def exported(text):
+    """What the program makes of a directory in the form `ldif`, and its status, or None where no program is there."""
+    one = built()
+    run = one and subprocess.run([one, "ldif"], input=text, capture_output=True, check=False)
+    return (run.stdout, run.returncode) if one else None
+
+
 def ask(words, given, folder=None):
     """What the program writes to standard output, and its status."""
     try:

@@ -9,7 +9,7 @@ import tomllib
 import dates
 import ldif
 import message
-from console import Trouble, read_file
+from console import Trouble, exported, read_file
 
 LONGEST, MOST_PROVIDERS, MOST_ACCOUNTS, LIMIT = 1_048_576, 16, 10_000, 31_457_280
 PROVIDER = ("name", "mailReceipt", "managedDomains", "key", "zone", "limit", "account")
@@ -316,6 +316,18 @@ def load(name):
     """The directory of a file, which may have a script behind it."""
     read = Directory(parted(read_file(name))[0])
     if read.faults:
+        read = by_the_program(read.text) or read
+    if read.faults:
         one = read.faults[0]
         raise Trouble(f"{name}, {one.where()}: {one.words} (bin/lint {name} says all of it)")
+    return read
+
+
+def by_the_program(text):
+    """The directory as the program reads it, where it is there and takes it: TOML 1.1 has forms that Python's reader hasn't."""
+    said = exported(text)
+    if said is None or said[1]:
+        return None
+    read = Directory(said[0])
+    read.text = text
     return read
