@@ -85,6 +85,13 @@ def read_file(name):
         raise Trouble(f"{name} can't be read: {getattr(why, 'strerror', None) or 'it is closed'}") from None
 
 
+def write_out(data):
+    """Bytes to standard output."""
+    sys.stdout.flush()
+    sys.stdout.buffer.write(data)
+    sys.stdout.buffer.flush()
+
+
 def built():
     """A program that is there, the proved one where there is one, or None."""
     places = [os.environ.get("PEC"), os.path.join(TOP, "crates", "pec", "out", "pec"), os.path.join(TOP, "out", "pec-unproved")]
