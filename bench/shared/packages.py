@@ -46,7 +46,8 @@ def alone():
     if shutil.which("unshare") is None or shutil.which("ip", path=PATH) is None:
         skip("unshare (util-linux) or ip (iproute2) isn't there")
     apart = ["--net", "--mount", "--pid", "--mount-proc", "--fork", "--kill-child"]
-    words = ["unshare", *apart, sys.executable, *sys.argv]
+    # (the shell is the first process there, and takes leave of those that nobody waits for)
+    words = ["unshare", *apart, "sh", "-c", '"$@"; exit $?', "sh", sys.executable, *sys.argv]
     run = subprocess.run(words, env=os.environ | {"ALONE": "yes", "PATH": PATH}, check=False)
     if run.returncode == 1 and os.geteuid() != 0:
         skip("a network of its own can't be had without rights of the system's administrator")
