@@ -3,6 +3,7 @@ says loudly, with a status of its own."""
 
 import os
 import shutil
+import signal
 import subprocess
 import sys
 
@@ -48,6 +49,8 @@ def alone():
     apart = ["--net", "--mount", "--pid", "--mount-proc", "--fork", "--kill-child"]
     # (the shell is the first process there, and takes leave of those that nobody waits for)
     words = ["unshare", *apart, "sh", "-c", '"$@"; exit $?', "sh", sys.executable, *sys.argv]
+    # (`unshare` heeds no other signal than the one that can't be put off, which this call sends as it is left)
+    signal.signal(signal.SIGTERM, lambda *_: sys.exit(143))
     run = subprocess.run(words, env=os.environ | {"ALONE": "yes", "PATH": PATH}, check=False)
     if run.returncode == 1 and os.geteuid() != 0:
         skip("a network of its own can't be had without rights of the system's administrator")

@@ -66,7 +66,8 @@ class Page:
         )
 
     def section(self, name, body):
-        return f'<section id="{name}" aria-labelledby="{name}-title"><h2 id="{name}-title">{shown(self.say(name))}</h2>{body}</section>'
+        head = f'<h2 id="{name}-title">{shown(self.say(name))}</h2>'
+        return f'<section id="{name}" aria-labelledby="{name}-title">{head}{body}</section>'
 
     def lists(self, items, book, seen):
         mailbox = self.mailbox(items, seen) if items else shown(self.say("nothing"))
