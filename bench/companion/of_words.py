@@ -6,7 +6,7 @@ import tempfile
 
 from place import BIN, WIDTH, companion, ran
 
-COMPANIONS = ["letter", "lint", "verify", "log", "fate", "json", "install", "manual"]
+COMPANIONS = ["letter", "lint", "verify", "log", "fate", "json", "install", "manual", "registry", "service", "webmail"]
 
 
 def fits(seen):
