@@ -31,12 +31,30 @@ def program(top, is_proved):
     return made
 
 
+def crates(top):
+    """The crates below the player, and their lines of crates.txt with that of the player."""
+    lines, below = {}, {}
+    for file in (os.path.join(top, "crates.txt"), os.path.join(HERE, "program", "crates.txt")):
+        with open(file, encoding="utf-8") as text:
+            for line in text:
+                name, colon, rest = line.partition(":")
+                if colon and not line.startswith("#"):
+                    lines[name.split()[0]], below[name.split()[0]] = line, rest.split()
+    found, left = set(), ["player"]
+    while left:
+        name = left.pop()
+        if name in below and name not in found:
+            found.add(name)
+            left += below[name]
+    return sorted(found - {"player"}), "".join(lines[name] for name in lines if name in found)
+
+
 def sources(top):
     """The files of which the player is made."""
-    found = [os.path.join(top, "crates.txt")]
-    for folder, below, names in os.walk(os.path.join(top, "crates")):
-        below[:] = [name for name in below if name not in ("out", "edits", "must-fail")]
-        found += [os.path.join(folder, name) for name in names if name.endswith(".rt")]
+    found = []
+    for name in crates(top)[0]:
+        for folder, _, names in os.walk(os.path.join(top, "crates", name, "src")):
+            found += [os.path.join(folder, one) for one in names]
     program = os.path.join(HERE, "program")
     return sorted(found) + [os.path.join(program, name) for name in sorted(os.listdir(program))]
 
@@ -69,7 +87,8 @@ def player(top):
 
 def laid(top, folder):
     """A crate of the player in a folder with the crates below it, as rt takes them."""
-    for name in os.listdir(os.path.join(top, "crates")):
+    needed, listed = crates(top)
+    for name in needed:
         for part in ("src", "specs", "proofs"):
             there = os.path.join(top, "crates", name, part)
             if os.path.isdir(there):
@@ -80,9 +99,7 @@ def laid(top, folder):
         if name.endswith(".rattle"):
             shutil.copy2(os.path.join(HERE, "program", name), os.path.join(crate, "src", name.removesuffix(".rattle") + ".rt"))
     with open(os.path.join(folder, "crates.txt"), "w", encoding="utf-8") as out:
-        for file in (os.path.join(top, "crates.txt"), os.path.join(HERE, "program", "crates.txt")):
-            with open(file, encoding="utf-8") as lines:
-                out.write(lines.read())
+        out.write(listed)
     os.mkdir(os.path.join(folder, ".git"))
     return crate
 

@@ -44,14 +44,15 @@ def bytes_of(text, ends=False):
 
 
 def cut(value, at):
-    """The value of one operation on a text: `with OLD -> NEW`, `part NAME`, `half`, `flip PLACE`."""
+    """The value of one operation on a text: `with OLD -> NEW` (the first OLD), `each OLD -> NEW`, `part NAME`, `half`, `front SIZE`, `flip PLACE`, `at PLACE
+    COUNT TEXT` (so many bytes from there on become the text)."""
     word, _, rest = at.partition(" ")
-    if word == "with":
+    if word in ("with", "each"):
         old, arrow, new = rest.partition(" -> ")
         old, new = bytes_of(old, True), bytes_of(new, True)
         if not arrow or old not in value:
             raise Wrong(f"`{at}`: no such text")
-        return value.replace(old, new, 1)
+        return value.replace(old, new, 1 if word == "with" else -1)
     if word == "part":
         begin = value.find(f'filename="{rest}"\r\n\r\n'.encode())
         end = value.find(b"\r\n--=_pec_", begin)
@@ -60,10 +61,15 @@ def cut(value, at):
         return value[value.find(b"\r\n\r\n", begin) + 4 : end]
     if word == "half" and not rest:
         return value[: len(value) // 2]
+    if word == "front" and rest.isdigit():
+        return value[: int(rest)]
     if word == "flip" and re.fullmatch(r"-?\d+", rest):
         changed = bytearray(value)
         changed[int(rest)] ^= 1
         return bytes(changed)
+    found = re.fullmatch(r"at (\d+) (\d+) ?(.*)", at)
+    if found:
+        return value[: int(found[1])] + bytes_of(found[3]) + value[int(found[1]) + int(found[2]) :]
     raise Wrong(f"`{at}` is no operation")
 
 
@@ -89,7 +95,15 @@ class Texts:
                 at = found.end()
         return whole + bytes_of(text[at:], True)
 
-    def let(self, line):
+    def let(self, line, folder=None):
+        name, mark, file = line.partition(" < ")
+        if mark and folder is not None:
+            try:
+                with open(os.path.join(folder, file), "rb") as text:
+                    self.known[name] = text.read().replace(b"\n", b"\n" if file.endswith(".toml") else b"\r\n")
+            except OSError as why:
+                raise Wrong(str(why)) from None
+            return
         name, mark, text = (line + " " if line.endswith(" =") else line).partition(" = ")
         if not mark or not NAME.fullmatch(name):
             raise Wrong(f"`let {line}` has no name")
