@@ -104,7 +104,7 @@ def played(program, row, texts, folder):
 
         def ran(step, known):
             if step.is_new or step is row.first():
-                before[:] = [asked("depot", *devices.disk)]
+                before[:] = [asked("depot", numbers(row.key("keeps")), *devices.disk)]
                 before.extend(asked("journal", *laid) for laid in playing.journals_of(row, folder, known))
             before.append(devices.run(step, playing.input_of(row, step, folder, known), known))
             return came_of(answers(program, before)[-1])

@@ -19,7 +19,7 @@ STATUSES = {
 PORT, SECONDS = 8125, 110
 # Keys of rows that only devices in memory can play.
 MEMORY = {
-    "screens", "spares", "piece", "fails-disk", "each-disk", "fails-read", "each-read", "fails-write", "each-write",
+    "screens", "spares", "piece", "keeps", "fails-disk", "each-disk", "fails-read", "each-read", "fails-write", "each-write",
     "fails-clock", "fails-door", "fails-connection",
 }  # fmt: skip
 

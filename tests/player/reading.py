@@ -11,7 +11,7 @@ PLAIN = {"n": b"\n", "r": b"\r", "t": b"\t", "\\": b"\\", "|": b"|"}
 # What is set up before a row is played, and how many values each takes at least.
 KEYS = {
     "directory": 1, "replace": 1, "add": 1, "input": 0, "ends": 1, "journal": 1, "screens": 1, "spares": 1, "piece": 1,
-    "fails-disk": 2, "each-disk": 2, "fails-read": 1, "each-read": 1, "fails-write": 1, "each-write": 1,
+    "fails-disk": 2, "keeps": 1, "each-disk": 2, "fails-read": 1, "each-read": 1, "fails-write": 1, "each-write": 1,
     "fails-clock": 1, "fails-door": 1, "fails-connection": 2,
 }  # fmt: skip
 

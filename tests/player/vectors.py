@@ -110,7 +110,7 @@ def asked(name, texts):
         return [asking.asked(name, *texts)]
     with open(os.path.join(RUNS, "alfa.toml"), "rb") as file:
         directory = file.read().replace(b'name = "alfa"', b'name = "alfa"\nlimit = 73')
-    return [asking.asked("depot", "", "", ""), asking.asked("run", "serve\n1\n", directory, "1000", "", "", "", "", "", "", texts[-1], "")]
+    return [asking.asked("depot"), asking.asked("run", "serve\n1\n", directory, "1000", "", "", "", "", "", "", texts[-1], "")]
 
 
 def replied(came):
