@@ -1,29 +1,13 @@
 //! Heads: where they end, what is found in them, and how they are written.
-use crate::rows::{holds, holds_at};
+use crate::rows::holds;
 use crate::texts::{are_these, is_value, joined, put, says};
 use pec_heads::{Head, HeadFault, ListFault, end_head, put_addresses, put_field};
 use pec_types::{Address, AddressFault, Class, Facts, Recipient, Text, Wish};
 use std::alloc::Global;
 
-static ENDS: [(&str, Result<usize, HeadFault>); 18] = [
+static ENDS: [(&str, Result<usize, HeadFault>); 2] = [
     ("A: b\r\n c\n\nx", Ok(10)), // folded; both line ends
     ("A: b\r\n", Err(HeadFault::NoEnd)), // a field, no empty line
-    ("", Err(HeadFault::NoEnd)), // no line at all
-    ("\r", Err(HeadFault::NoEnd)), // a last piece without LF is no line
-    ("\n", Ok(1)), // no field
-    ("\r\nA: b\n\n", Ok(2)), // the first empty line ends it
-    ("A: b\nC: d", Err(HeadFault::NoEnd)), // the last piece isn't read
-    ("A: b\n\x01", Err(HeadFault::NoEnd)), // nor is a control byte in it
-    (" A: b\n\n", Err(HeadFault::BadName(0))), // a first line goes on with nothing
-    ("\tb\n\n", Err(HeadFault::BadName(0))), // also without a colon
-    ("A : b\n\n", Err(HeadFault::BadName(0))), // a space in a name
-    ("A: b\n: c\n\n", Err(HeadFault::BadName(5))), // an empty name
-    ("A: b\nB\n\n", Err(HeadFault::NoColon(5))), // no colon
-    ("A: b\rc\n\n", Err(HeadFault::BareControl(4))), // CR inside a line
-    ("A: b\r\r\n\n", Err(HeadFault::BareControl(4))), // one CR belongs to the end
-    ("A: b\nabc\x7f\n\n", Err(HeadFault::BareControl(8))), // before the missing colon
-    ("A: b\n \n\n", Ok(8)), // a blank line goes on
-    ("A:\n\n", Ok(4)), // an empty value
 ];
 
 #[test]
@@ -39,42 +23,6 @@ fn is_ended(alloc: Global, text: &[u8], wanted: Result<usize, HeadFault>) -> boo
         Ok((_, place)) => wanted == Ok(place),
         Err(fault) => wanted == Err(fault),
     }
-}
-
-static LENGTHS: [(usize, &str, Result<usize, HeadFault>); 5] = [
-    (998, "\n", Ok(1000)),
-    (998, "\r\n", Ok(1001)), // CRLF isn't counted
-    (999, "\n", Err(HeadFault::LineTooLong(0))),
-    (999, "\r\n", Err(HeadFault::LineTooLong(0))),
-    (999, "\x01\n", Err(HeadFault::LineTooLong(0))), // before its control byte
-];
-
-#[test]
-fn a_line_has_at_most_998_bytes_without_its_end(rt: HostRuntime) {
-    for (bytes, end, wanted) in &LENGTHS {
-        holds_at(
-            &rt,
-            ends_so(rt.alloc(), *bytes, end, *wanted),
-            *bytes as u64,
-            end,
-        );
-    }
-}
-
-/// Whether the head of a line of so many bytes, with this end, ends there or has this fault.
-fn ends_so(alloc: Global, bytes: usize, end: &str, wanted: Result<usize, HeadFault>) -> bool {
-    let text = long_line(alloc, bytes, end);
-    is_ended(alloc, &text, wanted)
-}
-
-/// A line of so many bytes, with this end, and an empty one.
-fn long_line(alloc: Global, bytes: usize, end: &str) -> Vec<u8> {
-    let mut text = Vec::new(alloc);
-    put(&mut text, b"A:");
-    let _ = text.resize(bytes, b'x');
-    put(&mut text, end.as_bytes());
-    put(&mut text, b"\n");
-    text
 }
 
 const FOLDED: &[u8] =
@@ -121,14 +69,8 @@ fn tells_fields(head: &Head) -> bool {
         && !head.is_filled(b"D")
 }
 
-static LISTS: [(&str, &str); 7] = [
+static LISTS: [(&str, &str); 1] = [
     ("\"Rossi, Mario\" <m@a.it>, b@a.it,", "m@a.it b@a.it "), // a quoted comma; a blank entry
-    ("a@b\nTo: C@D", "a@b c@d "), // two fields; lower case
-    ("\"a\\\",b\" <a@b>", "a@b "), // a backslash takes the quote with it
-    ("<a@b>", "a@b "), // an empty phrase
-    ("x \"y\"z < a@b\t> ", "a@b "), // blanks inside the angles
-    ("a@b,,c@d", "a@b c@d "),
-    ("a@b, a@b", "a@b a@b "), // repeats stay
 ];
 
 #[test]
@@ -175,26 +117,11 @@ pub(crate) fn head_of(alloc: Global, text: &[u8]) -> Option<Head> {
     }
 }
 
-static WRONG_LISTS: [(&str, ListFault); 13] = [
+static WRONG_LISTS: [(&str, ListFault); 1] = [
     (
         "a@b (x)",
         ListFault::BadAddress(0, AddressFault::BadDomain(3)),
     ), // no comments
-    (
-        "a@b,  c@",
-        ListFault::BadAddress(6, AddressFault::BadDomain(2)),
-    ), // from its first ink
-    ("a b", ListFault::BadAddress(0, AddressFault::NoAt)),
-    ("a@b,  <c@d> x", ListFault::Syntax(4)), // from behind the comma
-    ("\"x\" a@b", ListFault::Syntax(0)), // a quote, no angles
-    ("<a@b", ListFault::Syntax(0)),
-    ("x:y <a@b>", ListFault::Syntax(0)), // a colon in a phrase
-    ("Rossi <a@b@c>", ListFault::Syntax(0)), // no address inside
-    ("\"x\\", ListFault::Syntax(0)), // the quote isn't closed
-    ("a@b, \"x <c@d>, e@f", ListFault::Syntax(4)), // and takes the comma with it
-    ("a@b\nTo: \"x\nTo: y\" z", ListFault::Syntax(4)), // over the joined fields
-    (" , ,", ListFault::Empty),
-    ("", ListFault::Empty),
 ];
 
 #[test]
@@ -213,8 +140,6 @@ fn has_list_fault(alloc: Global, value: &str, wanted: ListFault) -> bool {
 
 const FULL: &[u8] =
     b"From: Anna <A@b>\nTo: c@d, e@f\nTo: C@D\nCc: g@h, e@f, g@h\nX-TipoRicevuta: BREVE\nSubject: \t\xe8\tx \nMessage-ID: <1>\nReply-To: \x80\n\n";
-
-const BARE: &[u8] = b"From: a@b\nTo: c@d\nX-TipoRicevuta: nessuna\nSubject:\nReply-To: \n\n";
 
 #[test]
 fn facts_are_what_the_first_fields_say(rt: HostRuntime) {
@@ -275,54 +200,6 @@ fn facts_in(alloc: Global, head: &Head) -> Option<Facts> {
     match head.facts(alloc) {
         Ok(facts) => facts,
         Err(_) => None,
-    }
-}
-
-#[test]
-fn what_a_head_leaves_out_is_absent_or_the_sender(rt: HostRuntime) {
-    assert!(rt; are_bare_facts(rt.alloc()));
-}
-
-fn are_bare_facts(alloc: Global) -> bool {
-    match facts_of(alloc, BARE) {
-        Some(facts) => {
-            facts.wish == Wish::Full
-                && facts.subject.is_none()
-                && facts.reference.is_none()
-                && are_these(facts.reply.bytes(), b"a@b")
-        }
-        None => false,
-    }
-}
-
-static NO_FACTS: [(&str, &str); 6] = [
-    ("To: c@d\n\n", "no From"),
-    ("From: a@b\n\n", "no To"),
-    ("From: a@b, a@b\nTo: c@d\n\n", "two addresses in From"),
-    ("From: a@b\nFrom: a@b\nTo: c@d\n\n", "two From fields"),
-    ("From: a@b\nTo: ,\n\n", "a To without an address"),
-    ("From: a@b\nTo: c@d\nCc:\n\n", "a Cc without an address"),
-];
-
-#[test]
-fn a_head_without_one_sender_or_with_a_wrong_list_has_no_facts(rt: HostRuntime) {
-    for (text, reason) in &NO_FACTS {
-        holds(&rt, has_no_facts(rt.alloc(), text.as_bytes()), reason);
-    }
-}
-
-/// Whether the text is a head, and has no facts.
-fn has_no_facts(alloc: Global, text: &[u8]) -> bool {
-    match head_of(alloc, text) {
-        Some(head) => tells_no_facts(alloc, &head),
-        None => false,
-    }
-}
-
-fn tells_no_facts(alloc: Global, head: &Head) -> bool {
-    match head.facts(alloc) {
-        Ok(facts) => facts.is_none(),
-        Err(_) => false,
     }
 }
 

@@ -1,84 +1,9 @@
 //! Bodies that have parts.
 use crate::heads::head_of;
-use crate::rows::holds;
-use crate::texts::{are_these, is_value, joined, put, put_number, says};
+use crate::texts::{are_these, is_value};
 use pec_bodies::{Part, Parts};
 use pec_heads::Head;
 use std::alloc::Global;
-
-/// A head with this `Content-Type`.
-pub(crate) fn head_with(alloc: Global, value: &[u8]) -> Option<Head> {
-    let text = joined(alloc, &[b"Content-Type: ", value, b"\n\n"]);
-    head_of(alloc, &text)
-}
-
-static BODIES: [(&str, &str); 8] = [
-    // line ends of one byte
-    ("--b\n\na\n--b--\n", "4:\na|"),
-    // of two bytes; the closing delimiter is the last piece
-    (
-        "--b\r\n\r\na\r\n--b\r\nA: b\r\n\r\n\r\n--b--",
-        "5:\r\na|15:A: b\r\n\r\n|",
-    ),
-    // blanks behind a delimiter; what stands before the first one and behind the closing one is passed over
-    ("x--b\n--b--\n--b \t\n\na\r\n--b-- \nrest\n--b\n", "17:\na|"),
-    // of the line ends before a delimiter the last one alone is none of the part
-    ("--b\n\n\n\n--b--", "4:\n\n|"),
-    // delimiters of other boundaries
-    (
-        "--b\n\n--b-x\n\na\n--b-x--\n--bc\n--b--",
-        "4:\n--b-x\n\na\n--b-x--\n--bc|",
-    ),
-    // a blank in front of the dashes
-    ("--b\n\na\n --b\n--b--", "4:\na\n --b|"),
-    // blanks behind the last piece
-    ("--b\n\na\n--b-- \t", "4:\na|"),
-    // three parts, of which two are an empty head alone
-    ("--b\n\n\n--b\n\n\n--b\n\nx\n--b--", "4:\n|10:\n|16:\nx|"),
-];
-
-#[test]
-fn a_part_stands_between_delimiters_without_the_line_end_before_the_second(rt: HostRuntime) {
-    for (body, wanted) in &BODIES {
-        holds(
-            &rt,
-            has_parts(rt.alloc(), body.as_bytes(), wanted.as_bytes()),
-            body,
-        );
-    }
-}
-
-fn has_parts(alloc: Global, body: &[u8], wanted: &[u8]) -> bool {
-    match head_with(alloc, b"Multipart/x; boundary=b") {
-        Some(head) => are_read(alloc, &head, body, wanted),
-        None => false,
-    }
-}
-
-fn are_read(alloc: Global, head: &Head, body: &[u8], wanted: &[u8]) -> bool {
-    match Parts::read(alloc, head, body) {
-        Ok(parts) => says(shown(alloc, &parts), wanted),
-        Err(_) => false,
-    }
-}
-
-/// Each part of a body as `PLACE:BYTES|`.
-fn shown(alloc: Global, parts: &Parts<'_>) -> Vec<u8> {
-    let mut text = Vec::new(alloc);
-    for i in 0..parts.count() {
-        put_part(alloc, &mut text, parts.part(i));
-    }
-    text
-}
-
-fn put_part(alloc: Global, text: &mut Vec<u8>, part: Option<Part<'_>>) {
-    if let Some(part) = part {
-        put_number(alloc, text, part.start as u64);
-        put(text, b":");
-        put(text, part.whole);
-        put(text, b"|");
-    }
-}
 
 /// A client's message with two attachments, of which the second has no name.
 const MESSAGE: &[u8] =

@@ -1,14 +1,9 @@
-//! The directories that the tests look things up in, and that are read.
-use crate::texts::{put, replaced};
-use pec_directory::Directory;
+//! The directories that the tests look things up in, and the most accounts that one may have.
+use crate::texts::put;
+use pec_directory::{Directory, DirectoryFault};
 use pec_trial::{alfa, two, two_with_due};
 use pec_types::Address;
 use std::alloc::Global;
-
-/// The text with its line feeds, for which it has `~`.
-pub(crate) fn lines(alloc: Global, text: &str) -> String {
-    replaced(alloc, text, "~", "\n")
-}
 
 /// The directory of both providers, the first with a second domain.
 pub(crate) fn directory(alloc: Global) -> Option<Directory> {
@@ -24,7 +19,7 @@ pub(crate) fn first_alone(alloc: Global) -> Option<Directory> {
 }
 
 /// A directory of the first provider with so many accounts, and of the second one with its two.
-pub(crate) fn crowd(alloc: Global, accounts: u32) -> String {
+fn crowd(alloc: Global, accounts: u32) -> String {
     let mut text = String::new(alloc);
     put(&mut text, without_accounts());
     for number in 0..accounts {
@@ -62,4 +57,22 @@ fn put_number(alloc: Global, text: &mut String, number: u32) {
 
 pub(crate) fn address_of(alloc: Global, text: &[u8]) -> Option<Address> {
     Address::read(alloc, text).ok()
+}
+
+// The last two accounts of these directories are at their second provider.
+#[test]
+fn ten_thousand_accounts_are_taken(rt: HostRuntime) {
+    assert!(rt; is_crowd_read_as(rt.alloc(), 9_998, None));
+}
+
+#[test]
+fn one_account_more_is_too_many(rt: HostRuntime) {
+    assert!(rt; is_crowd_read_as(rt.alloc(), 9_999, Some(DirectoryFault::TooMany)));
+}
+
+fn is_crowd_read_as(alloc: Global, accounts: u32, wanted: Option<DirectoryFault>) -> bool {
+    match Directory::read(alloc, crowd(alloc, accounts).as_str()) {
+        Ok(_) => wanted.is_none(),
+        Err(fault) => wanted == Some(fault),
+    }
 }

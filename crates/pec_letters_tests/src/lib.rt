@@ -1,13 +1,9 @@
 //! Tests of `pec_directory`, `pec_letters` and `pec_receipts` over their public calls. Letters that are expected were
-//! composed by another program; the fault of an edited one was found by hand in this project's tables.
+//! composed by another program; edited ones, and directories with faults, are rows of tests/vectors.
 #![tactic(auto)]
 
 #[cfg(test)]
 mod directories;
-#[cfg(test)]
-mod directory_faults;
-#[cfg(test)]
-mod edited;
 #[cfg(test)]
 mod houses;
 #[cfg(test)]
@@ -22,7 +18,5 @@ mod lookups;
 mod receipt_texts;
 #[cfg(test)]
 mod receipts_composed;
-#[cfg(test)]
-mod receipts_read;
 #[cfg(test)]
 mod texts;

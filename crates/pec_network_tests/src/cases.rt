@@ -1,41 +1,9 @@
 //! Scripts over new networks.
 
-use crate::net::{Outcome, played};
-use pec_network::Form;
+use crate::net::Outcome;
 use pec_outside::MemDepot;
 use std::alloc::Global;
 use std::test::Fail;
-use std::thread::Threads;
-
-/// A script over a new network, where the named calls of disks fail, each by its provider's number and its own. A crash
-/// keeps so many pending bytes, in the order of crashes, and none past the list.
-#[derive(Clone, Copy)]
-pub(crate) struct Case {
-    pub(crate) why: &'static str,
-    pub(crate) failing: &'static [(u32, u64)],
-    pub(crate) kept: &'static [u64],
-    pub(crate) script: &'static str,
-}
-
-/// The first line of the cases that isn't answered as it says, and what came.
-pub(crate) fn first_wrong_of<X: Threads + Sync>(
-    rt: &X,
-    alloc: Global,
-    cases: &[Case],
-) -> Result<Option<String>, Fail> {
-    for case in cases {
-        let wrong = wrong_in(rt, alloc, case)?;
-        if wrong.is_some() {
-            return Ok(wrong);
-        }
-    }
-    Ok(None)
-}
-
-fn wrong_in<X: Threads + Sync>(rt: &X, alloc: Global, case: &Case) -> Result<Option<String>, Fail> {
-    let depot = depot_failing(alloc, case.failing, case.kept);
-    wrong_line(played(rt, alloc, Form::Make, depot, case.script)?)
-}
 
 /// The first wrong line of a script whose network began.
 pub(crate) fn wrong_line(played: Outcome) -> Result<Option<String>, Fail> {

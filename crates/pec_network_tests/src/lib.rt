@@ -3,21 +3,15 @@
 #![tactic(auto)]
 
 #[cfg(test)]
-mod archives;
-#[cfg(test)]
 mod beginning;
 #[cfg(test)]
 mod cases;
-#[cfg(test)]
-mod crashes;
 #[cfg(test)]
 mod digests;
 #[cfg(test)]
 mod net;
 #[cfg(test)]
 mod providers;
-#[cfg(test)]
-mod rounds;
 #[cfg(test)]
 mod words;
 #[cfg(test)]

@@ -2,19 +2,19 @@
 
 ghost use Rattle.std.specs.Prelude.{◌<◌, length, IfOk};
 
-use crate::words::{link_word, restart_word};
+use crate::words::link_word;
 use pec_directory::Directory;
 use pec_link::LinkFault;
-use pec_network::{Form, FreeGate, Network, StartFault, SwapFault};
+use pec_network::{Form, FreeGate, Network, StartFault};
 use pec_outside::{MemDepot, MemDisk};
 use pec_screen::PatternScreen;
 use pec_seal::HmacSealer;
 use pec_trade::sealer_of;
 use pec_trial::{
-    account_at, moment_of, number, small, submission_of, text_of, told, told_all, told_item,
-    told_turns, told_word, two, word,
+    account_at, moment_of, number, small, submission_of, text_of, told, told_all, told_turns,
+    told_word, two, word,
 };
-use pec_types::{Frame, Mark, NoMemory, ProviderFault, Steps, Text8};
+use pec_types::{Frame, NoMemory, Text8};
 use std::alloc::{AllocError, Global};
 use std::test::Fail;
 use std::thread::Threads;
@@ -157,44 +157,20 @@ struct Spot {
 #[derive(Clone, Copy)]
 enum Verb {
     Submit,
-    Tick,
     Round,
     Lose,
-    Repeat,
-    Swap,
     Inject,
-    Crash,
-    Restart,
     Book,
-    Mailbox,
-    Show,
-    Archive,
-    Upgrade,
-    Vault,
-    VaultShow,
-    Screen,
     Entries,
     Unknown,
 }
 
-const VERBS: [(&str, Verb); 18] = [
+const VERBS: [(&str, Verb); 6] = [
     ("submit", Verb::Submit),
-    ("tick", Verb::Tick),
     ("round", Verb::Round),
     ("lose", Verb::Lose),
-    ("repeat", Verb::Repeat),
-    ("swap", Verb::Swap),
     ("inject", Verb::Inject),
-    ("crash", Verb::Crash),
-    ("restart", Verb::Restart),
     ("book", Verb::Book),
-    ("mailbox", Verb::Mailbox),
-    ("show", Verb::Show),
-    ("archive", Verb::Archive),
-    ("upgrade", Verb::Upgrade),
-    ("vault", Verb::Vault),
-    ("vault-show", Verb::VaultShow),
-    ("screen", Verb::Screen),
     ("entries", Verb::Entries),
 ];
 
@@ -240,22 +216,10 @@ impl<X: Threads + Sync> Net<'_, X> {
     fn answer(&mut self, call: &str) -> Result<Vec<u8>, Fail> {
         match verb_of(word(call, 0)) {
             Verb::Submit => self.submit(call),
-            Verb::Tick => self.tick(call),
             Verb::Round => self.round(call),
             Verb::Lose => self.lose(call),
-            Verb::Repeat => self.repeat(call),
-            Verb::Swap => self.swap(call),
             Verb::Inject => self.inject(call),
-            Verb::Crash => self.crash(call),
-            Verb::Restart => self.restart(call),
             Verb::Book => self.book(call),
-            Verb::Mailbox => self.mailbox(call),
-            Verb::Show => self.show(call),
-            Verb::Archive => self.archive(call),
-            Verb::Upgrade => self.upgrade(call),
-            Verb::Vault => self.vault(call),
-            Verb::VaultShow => self.vault_show(call),
-            Verb::Screen => self.screen(call),
             Verb::Entries => self.entries(call),
             Verb::Unknown => Err("no such verb".into()),
         }
@@ -313,16 +277,6 @@ impl<X: Threads + Sync> Net<'_, X> {
         told(self.alloc, answer)
     }
 
-    /// `tick PROVIDER MOMENT`
-    fn tick(&mut self, line: &str) -> Result<Vec<u8>, Fail> {
-        let provider = self.who(line, 1)?;
-        let moment = moment_of(line, 2)?;
-        let answer = self
-            .network
-            .tick(self.alloc, provider, moment, &mut Steps::new());
-        told_all(self.alloc, answer, b"marks")
-    }
-
     /// `round MOMENT`
     fn round(&mut self, line: &str) -> Result<Vec<u8>, Fail> {
         let moment = moment_of(line, 1)?;
@@ -334,22 +288,6 @@ impl<X: Threads + Sync> Net<'_, X> {
     fn lose(&mut self, line: &str) -> Result<Vec<u8>, Fail> {
         let spot = self.spot(line)?;
         let answer = self.network.lose(spot.from, spot.to, spot.place);
-        told_word(self.alloc, link_word(answer))
-    }
-
-    /// `repeat FROM TO PLACE`
-    fn repeat(&mut self, line: &str) -> Result<Vec<u8>, Fail> {
-        let spot = self.spot(line)?;
-        let answer = self
-            .network
-            .repeat(self.alloc, spot.from, spot.to, spot.place);
-        told_word(self.alloc, link_word(answer))
-    }
-
-    /// `swap FROM TO PLACE`
-    fn swap(&mut self, line: &str) -> Result<Vec<u8>, Fail> {
-        let spot = self.spot(line)?;
-        let answer = self.network.swap(spot.from, spot.to, spot.place);
         told_word(self.alloc, link_word(answer))
     }
 
@@ -370,88 +308,11 @@ impl<X: Threads + Sync> Net<'_, X> {
         Ok(self.network.inject(from, to, Frame::of(Text8::of(text))))
     }
 
-    /// `crash PROVIDER`
-    fn crash(&mut self, line: &str) -> Result<Vec<u8>, Fail> {
-        let provider = self.who(line, 1)?;
-        self.network.crash(provider, &mut self.depot);
-        told_word(self.alloc, b"crashed")
-    }
-
-    /// `restart PROVIDER`: how many entries it has.
-    fn restart(&mut self, line: &str) -> Result<Vec<u8>, Fail> {
-        let provider = self.who(line, 1)?;
-        match self.network.restart(self.alloc, provider) {
-            Ok(entries) => told_number(self.alloc, entries),
-            Err(fault) => told_word(self.alloc, restart_word(fault)),
-        }
-    }
-
     /// `book ACCOUNT`
     fn book(&self, line: &str) -> Result<Vec<u8>, Fail> {
         let account = account_at(self.alloc, line, 1)?;
         let answer = self.network.book(self.alloc, &account);
         told_all(self.alloc, answer, b"rows")
-    }
-
-    /// `mailbox ACCOUNT`
-    fn mailbox(&self, line: &str) -> Result<Vec<u8>, Fail> {
-        let account = account_at(self.alloc, line, 1)?;
-        let answer = self.network.mailbox(self.alloc, &account);
-        told_all(self.alloc, answer, b"items")
-    }
-
-    /// `show ACCOUNT PLACE`
-    fn show(&mut self, line: &str) -> Result<Vec<u8>, Fail> {
-        let place = small(line, 2)?;
-        let account = account_at(self.alloc, line, 1)?;
-        let answer = self.network.show(self.alloc, &account, place);
-        told_item(self.alloc, answer)
-    }
-
-    /// `archive ACCOUNT MOMENT PLACE`
-    fn archive(&mut self, line: &str) -> Result<Vec<u8>, Fail> {
-        let moment = moment_of(line, 2)?;
-        let place = small(line, 3)?;
-        let account = account_at(self.alloc, line, 1)?;
-        let answer = self.network.archive(self.alloc, moment, &account, place);
-        told_done(self.alloc, answer, b"archived")
-    }
-
-    /// `upgrade PROVIDER MOMENT`
-    fn upgrade(&mut self, line: &str) -> Result<Vec<u8>, Fail> {
-        let provider = self.who(line, 1)?;
-        let moment = moment_of(line, 2)?;
-        let answer = self.network.upgrade(self.alloc, provider, moment);
-        told_done(self.alloc, answer, b"upgraded")
-    }
-
-    /// `vault ACCOUNT`
-    fn vault(&self, line: &str) -> Result<Vec<u8>, Fail> {
-        let account = account_at(self.alloc, line, 1)?;
-        let answer = self.network.vault(self.alloc, &account);
-        told_all(self.alloc, answer, b"items")
-    }
-
-    /// `vault-show ACCOUNT PLACE`
-    fn vault_show(&mut self, line: &str) -> Result<Vec<u8>, Fail> {
-        let place = small(line, 2)?;
-        let account = account_at(self.alloc, line, 1)?;
-        let answer = self.network.vault_item(self.alloc, &account, place);
-        told_item(self.alloc, answer)
-    }
-
-    /// `screen PROVIDER PLACE PATTERN`
-    fn screen(&mut self, line: &str) -> Result<Vec<u8>, Fail> {
-        let provider = self.who(line, 1)?;
-        let place = number(line, 2)? as usize;
-        let Ok(spare) = screen_of(self.alloc, word(line, 3).as_bytes()) else {
-            return Err("no memory".into());
-        };
-        match self.network.replace(provider, place, spare) {
-            Ok(()) => told_word(self.alloc, b"screened"),
-            Err((_, SwapFault::Down)) => told_word(self.alloc, b"down"),
-            Err((_, SwapFault::NoSuchPlace)) => told_word(self.alloc, b"no-screen"),
-        }
     }
 
     /// `entries PROVIDER`
@@ -469,18 +330,6 @@ fn told_wrong(alloc: Global, line: &str, came: &[u8]) -> Result<String, AllocErr
         text.push(char::from(*b))?;
     }
     Ok(text)
-}
-
-/// What a call came to that answers no more than that it was done.
-fn told_done(
-    alloc: Global,
-    answer: Result<(), ProviderFault>,
-    done: &[u8],
-) -> Result<Vec<u8>, Fail> {
-    match answer {
-        Ok(()) => told_word(alloc, done),
-        Err(fault) => told_all::<Mark>(alloc, Err(fault), done),
-    }
 }
 
 fn told_number(alloc: Global, number: u64) -> Result<Vec<u8>, Fail> {

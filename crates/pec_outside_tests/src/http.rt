@@ -1,5 +1,4 @@
 //! One request over any desk, at a desk and over a connection of the tests' own.
-mod answers;
 mod connections;
 mod desk;
 mod serving;

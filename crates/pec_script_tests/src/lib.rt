@@ -8,13 +8,7 @@ mod answers;
 #[cfg(test)]
 mod boxes;
 #[cfg(test)]
-mod commands;
-#[cfg(test)]
 mod counting;
-#[cfg(test)]
-mod decision;
-#[cfg(test)]
-mod limits;
 #[cfg(test)]
 mod patterns;
 #[cfg(test)]
@@ -24,10 +18,6 @@ mod reception;
 #[cfg(test)]
 mod rows;
 #[cfg(test)]
-mod said;
-#[cfg(test)]
 mod screens;
-#[cfg(test)]
-mod second_reader;
 #[cfg(test)]
 mod values;

@@ -1,6 +1,5 @@
 //! Rows of what is printed, and its text.
 
-use crate::second_reader::{Form, is_read_again};
 use crate::values::{
     decided_line, directory, event, mark, named_item, nameless_item, open_line, turn_sending,
     turn_with,
@@ -63,39 +62,24 @@ pub enum Printed {
     Submitted(Option<Cause>),
 }
 
-/// What is printed, its text, and how the text is read again, where it can be.
-#[derive(Clone, Copy)]
-pub struct Row {
-    pub printed: Printed,
-    pub form: Option<Form>,
-    pub text: &'static str,
-}
+/// What is printed, and its text.
+pub type Row = (Printed, &'static str);
 
 /// The text of the first row that isn't right; none where each is.
 pub fn first_wrong(alloc: Global, rows: &[Row]) -> Option<&'static str> {
     for row in rows {
         if !is_right(alloc, row) {
-            return Some(row.text);
+            return Some(row.1);
         }
     }
     None
 }
 
-/// Whether the row is printed as its text, and read again where it can be.
+/// Whether the row is printed as its text.
 fn is_right(alloc: Global, row: &Row) -> bool {
     match directory(alloc) {
-        Some(directory) => {
-            is_printed(alloc, &directory, row.printed, row.text.as_bytes())
-                && can_be_read_again(alloc, &directory, row)
-        }
+        Some(directory) => is_printed(alloc, &directory, row.0, row.1.as_bytes()),
         None => false,
-    }
-}
-
-fn can_be_read_again(alloc: Global, directory: &Directory, row: &Row) -> bool {
-    match row.form {
-        Some(form) => is_read_again(alloc, directory, form, row.text.as_bytes()),
-        None => true,
     }
 }
 
@@ -129,7 +113,7 @@ fn text_of(alloc: Global, directory: &Directory, printed: Printed) -> Option<Vec
 }
 
 /// A text, where there was memory for it.
-pub fn some(text: Result<Vec<u8>, NoMemory>) -> Option<Vec<u8>> {
+fn some(text: Result<Vec<u8>, NoMemory>) -> Option<Vec<u8>> {
     match text {
         Ok(text) => Some(text),
         Err(_) => None,
@@ -200,7 +184,7 @@ fn marks(alloc: Global, directory: &Directory) -> Option<Vec<u8>> {
 }
 
 /// The round of a turn with this event alone, if there is one.
-pub fn round_of(alloc: Global, directory: &Directory, event: Option<Event>) -> Option<Vec<u8>> {
+fn round_of(alloc: Global, directory: &Directory, event: Option<Event>) -> Option<Vec<u8>> {
     round_text(alloc, directory, turn_with(alloc, event?))
 }
 

@@ -12,62 +12,11 @@ use pec_trial::alfa;
 /// status.
 type Dossier = (Directory, &'static str, &'static str, Status);
 
-static DOSSIERS: [Dossier; 5] = [
-    (Directory::Alfa, "", "check 0 0\n", Status::Done),
-    (
-        Directory::Two,
-        "# what the party saved\r\n\r\n{M1}\r\n{M2}",
-        "refused 0 seal\nrefused 1 seal\ncheck 0 2\n",
-        Status::Done,
-    ),
-    (
-        Directory::Alfa,
-        "{M1}\n???\n{M1}\n",
-        "refused 0 seal\nrefused line 2 bad-base64 1\n",
-        Status::Refused,
-    ),
-    (
-        Directory::Alfa,
-        "\n#\nsubmit alfa\n",
-        "refused line 3 bad-base64 1\n",
-        Status::Refused,
-    ),
-    (
-        Directory::Alfa,
-        " {M1}\n",
-        "refused line 1 bad-base64 1\n",
-        Status::Refused,
-    ),
-];
-
-/// Words and an input; what is written, and the status.
-type Row = (&'static [&'static str], &'static [u8], &'static str, Status);
-
-static ROWS: [Row; 5] = [
-    (&["check"], b"", "refused no-script\n", Status::Refused),
-    (
-        &["check"],
-        b"%%\n",
-        "refused directory no-provider\n",
-        Status::Refused,
-    ),
-    (
-        &["check"],
-        b"version: 1\ndn: x\nobjectClass: pecProvider\npecName: Alfa\n%%\n???\n",
-        "refused directory bad-field 0 name\n",
-        Status::Refused,
-    ),
-    (&["check", "x"], b"", "usage\n", Status::Usage),
-    (&["checks"], b"", "usage\n", Status::Usage),
-];
+static DOSSIERS: [Dossier; 1] = [(Directory::Alfa, "", "check 0 0\n", Status::Done)];
 
 /// The tables, by functions without a clause: the proofs of the tests are spared them.
 fn dossiers() -> &'static [Dossier] {
     &DOSSIERS
-}
-
-fn rows() -> &'static [Row] {
-    &ROWS
 }
 
 fn is_checked(rt: &impl System, input: &[u8], output: &[u8], status: Status) -> bool {
@@ -86,24 +35,9 @@ fn first_other(rt: &impl System) -> Option<usize> {
     None
 }
 
-/// The place of the first row that doesn't come as it says.
-fn first_wrong_row(rt: &impl System) -> Option<usize> {
-    for (place, row) in rows().iter().enumerate() {
-        if !ran_afresh(rt, &Given::of(row.0, row.1)).is(row.2.as_bytes(), row.3) {
-            return Some(place);
-        }
-    }
-    None
-}
-
 #[test]
 fn a_dossier_is_checked_line_by_line(rt: HostRuntime) {
     assert_eq!(rt; first_other(&rt), None);
-}
-
-#[test]
-fn an_input_that_is_no_dossier_ends_the_run(rt: HostRuntime) {
-    assert_eq!(rt; first_wrong_row(&rt), None);
 }
 
 /// A message from alice to anna, to its end, and its receipt of delivery.

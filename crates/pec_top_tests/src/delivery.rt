@@ -235,24 +235,6 @@ static FOURTH: [Case; 3] = [
     },
 ];
 
-static FIFTH: [Case; 1] = [Case {
-    why: "messages are named by the first domain of their provider",
-    directory: Directory::Domains,
-    failing: &[],
-    runs: &[Run {
-        form: "run",
-        script: "submit gamma 10 b@gamma.example a@uno.example,c@due.example \
-                     {From: b@gamma.example|To: a@uno.example|Cc: c@due.example||}\n\
-                     submit gamma 11 C@Due.example b@gamma.example {From: c@due.example|To: b@gamma.example||}\n\
-                     book b@gamma.example\nbook c@due.example\n",
-        output: "accepted pec.0000000@uno.example\naccepted pec.0000001@uno.example\n\
-                     pec.0000000@uno.example a@uno.example primary 10 - - - open\n\
-                     pec.0000000@uno.example c@due.example copy 10 - - - open\nbook 2\n\
-                     pec.0000001@uno.example b@gamma.example primary 11 - - - open\nbook 1\n",
-        status: Status::Done,
-    }],
-}];
-
 /// The tables, by functions without a clause: the proof of the test is spared their texts.
 fn first() -> &'static [Case] {
     &FIRST
@@ -270,13 +252,9 @@ fn fourth() -> &'static [Case] {
     &FOURTH
 }
 
-fn fifth() -> &'static [Case] {
-    &FIFTH
-}
-
 #[test]
 fn messages_come_to_their_ends(rt: HostRuntime) {
-    for cases in [first(), second(), third(), fourth(), fifth()] {
+    for cases in [first(), second(), third(), fourth()] {
         assert_eq!(rt; first_wrong(&rt, cases), None);
     }
 }

@@ -24,15 +24,7 @@ const TAKEN: &str = "provider,entry,moment,event,id,sender,recipients,subject,de
     totals,0,0,0,0,,,,\n";
 
 /// Words that are no form of the program.
-static OTHERS: [&[&str]; 7] = [
-    &["extract", "2", "1"],
-    &["extract", "1"],
-    &["extract"],
-    &["extract", "1", "2", "3"],
-    &["extract", "01", "2"],
-    &["extract", "1", "4102444800"],
-    &["Extract", "1", "2"],
-];
+static OTHERS: [&[&str]; 1] = [&["extract", "2", "1"]];
 
 /// The texts and the table, by functions without a clause: the proofs of the tests are spared them.
 fn header() -> &'static str {
@@ -93,20 +85,6 @@ fn a_range_is_told(rt: HostRuntime) {
 fn is_taken(rt: &impl System) -> bool {
     let script = joined(rt.alloc(), &[submitted(), rounds()]);
     is_extract(rt, script.as_str(), ("1704186002", "1704186002"), taken())
-}
-
-#[test]
-fn both_ends_belong_to_a_range(rt: HostRuntime) {
-    assert!(rt; is_extract(&rt, submitted(), ("0", "1704186000"), accepted()));
-    assert!(rt; is_extract(&rt, submitted(), ("1704186000", "4102444799"), accepted()));
-    assert!(rt; is_empty(&rt, ("0", "1704185999")));
-    assert!(rt; is_empty(&rt, ("1704186001", "4102444799")));
-}
-
-/// Whether the extract of a range in which nothing was logged has no row.
-fn is_empty(rt: &impl System, range: (&str, &str)) -> bool {
-    let wanted = joined(rt.alloc(), &[header(), "totals,0,0,0,0,,,,\n"]);
-    is_extract(rt, submitted(), range, wanted.as_str())
 }
 
 #[test]

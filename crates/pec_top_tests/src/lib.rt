@@ -1,4 +1,5 @@
-//! Tests of `pec_top` over its public calls: whole runs of the program over memory, those that serve connections too.
+//! Tests of `pec_top` over its public calls: whole runs of the program over memory, those that
+//! serve connections too: the worked rows of docs/, and what text can't say. The others are tests/runs.
 #![tactic(auto)]
 
 #[cfg(test)]
@@ -26,8 +27,6 @@ mod items;
 #[cfg(test)]
 mod ldif;
 #[cfg(test)]
-mod letters;
-#[cfg(test)]
 mod loading;
 #[cfg(test)]
 mod refusals;
@@ -41,7 +40,5 @@ mod services;
 mod serving;
 #[cfg(test)]
 mod shown;
-#[cfg(test)]
-mod three;
 #[cfg(test)]
 mod versions;

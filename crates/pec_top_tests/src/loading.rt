@@ -27,34 +27,6 @@ entries alfa 61251
 entries beta 60001
 ";
 
-/// Where the first message can't be written to alfa's disk.
-const NONE_ACCEPTED: &str = "load 20
-accepted 0
-delivered 0
-refused 0
-open 0
-noticed 0
-entries alfa 1
-entries beta 1
-";
-
-/// Where the fifth can't.
-const FOUR_ACCEPTED: &str = "load 20
-accepted 4
-delivered 0
-refused 0
-open 4
-noticed 0
-entries alfa 5
-entries beta 1
-";
-
-/// A call of alfa's disk that fails, and what a load of twenty comes to then: alfa is down from there on. The journal
-/// is made by three calls, and an entry is appended by four.
-type Fault = (u64, &'static str);
-
-static FAULTS: [Fault; 2] = [(7, NONE_ACCEPTED), (7 + 4 * 4, FOUR_ACCEPTED)];
-
 /// Words, and what they come to over empty disks, whatever the input is.
 type Row = (&'static [&'static str], &'static str, Status);
 
@@ -78,10 +50,6 @@ fn more_rows() -> &'static [Row] {
     &MORE_ROWS
 }
 
-fn faults() -> &'static [Fault] {
-    &FAULTS
-}
-
 fn twenty() -> &'static str {
     TWENTY
 }
@@ -101,40 +69,6 @@ fn first_other(rt: &impl System, rows: &[Row]) -> Option<usize> {
     None
 }
 
-/// Whether a load of twenty messages refuses the disks that one left.
-fn refuses_what_is_there(rt: &impl System) -> bool {
-    let mut depot = depot_failing(rt.alloc(), &[]);
-    let given = Given::of(&["load", "20"], b"");
-    let first = ran_over(rt, &mut depot, &given).is(twenty().as_bytes(), Status::Done);
-    let again = ran_over(rt, &mut depot, &given).is(b"not-empty alfa\n", Status::NotEmpty);
-    first && again
-}
-
-/// Whether a load comes so whose write fails, and one whose first disk can't be written.
-fn is_stopped_by_devices(rt: &impl System) -> bool {
-    let given = Given {
-        writes: &[0],
-        ..Given::of(&["load", "20"], b"")
-    };
-    let written = ran_afresh(rt, &given).is(b"", Status::WriteFault);
-    let mut depot = depot_failing(rt.alloc(), &[(0, 0)]);
-    let given = Given::of(&["load", "20"], b"");
-    let begun = ran_over(rt, &mut depot, &given).is(b"", Status::StartFault);
-    written && begun
-}
-
-/// The first call of alfa's disk whose failure isn't borne.
-fn first_not_borne(rt: &impl System) -> Option<u64> {
-    for fault in faults() {
-        let mut depot = depot_failing(rt.alloc(), &[(0, fault.0)]);
-        let given = Given::of(&["load", "20"], b"");
-        if !ran_over(rt, &mut depot, &given).is(fault.1.as_bytes(), Status::Done) {
-            return Some(fault.0);
-        }
-    }
-    None
-}
-
 /// Whether all that a load may have is summed up.
 fn all_is_summed_up(rt: &impl System) -> bool {
     let given = Given::of(&["load", "20000"], b"");
@@ -145,21 +79,6 @@ fn all_is_summed_up(rt: &impl System) -> bool {
 fn a_load_is_of_one_to_twenty_thousand_messages(rt: HostRuntime) {
     assert_eq!(rt; first_other(&rt, rows()), None);
     assert_eq!(rt; first_other(&rt, more_rows()), None);
-}
-
-#[test]
-fn a_load_refuses_journals_that_are_there(rt: HostRuntime) {
-    assert!(rt; refuses_what_is_there(&rt));
-}
-
-#[test]
-fn a_load_is_stopped_by_devices(rt: HostRuntime) {
-    assert!(rt; is_stopped_by_devices(&rt));
-}
-
-#[test]
-fn a_load_is_summed_up_where_a_disk_fails(rt: HostRuntime) {
-    assert_eq!(rt; first_not_borne(&rt), None);
 }
 
 #[test]

@@ -8,7 +8,7 @@ use std::alloc::Global;
 
 const ROW: &str = "submit alfa 1704186000 alice@alfa.example anna@alfa.example {M1}\n";
 
-static FIRST: [Case; 4] = [
+static FIRST: [Case; 3] = [
     Case {
         why: "a message that breaks a row of the table of admission isn't accepted",
         directory: Directory::Two,
@@ -53,23 +53,9 @@ static FIRST: [Case; 4] = [
             status: Status::Done,
         }],
     },
-    Case {
-        why: "a provider whose clock is ahead takes and sends nothing in a round, and the others do",
-        directory: Directory::Two,
-        failing: &[],
-        runs: &[Run {
-            form: "run",
-            script: "submit alfa 1704186000 alice@alfa.example bob@beta.example {M2}\ntick beta 1704186005\n\
-                     round 1704186001\nround 1704186005\n",
-            output: "accepted I0\nticked\nalfa sent beta 1\nbeta clock-back 1704186005\nround\n\
-                     alfa sent beta 1\nbeta took I0\nbeta decided I0 bob@beta.example delivered\n\
-                     beta sent alfa 2\nround\n",
-            status: Status::Done,
-        }],
-    },
 ];
 
-static SECOND: [Case; 3] = [
+static SECOND: [Case; 2] = [
     Case {
         why: "where no frame waits none is lost, repeated or swapped; and who is up isn't restarted",
         directory: Directory::Two,
@@ -107,62 +93,15 @@ static SECOND: [Case; 3] = [
             },
         ],
     },
-    Case {
-        why: "an empty disk isn't resumed",
-        directory: Directory::Two,
-        failing: &[],
-        runs: &[Run {
-            form: "resume",
-            script: "book alice@alfa.example\n",
-            output: "not-fit alfa journal 0\n",
-            status: Status::NotFit,
-        }],
-    },
 ];
 
-static THIRD: [Case; 2] = [
-    Case {
-        why: "a line is refused for its first fault, behind the lines before it",
-        directory: Directory::Two,
-        failing: &[],
-        runs: &[Run {
-            form: "run",
-            script: "# a remark\n\nbook alice@alfa.example\ninject alfa beta ???\nbook bob@beta.example\n",
-            output: "book 0\nrefused line 4 bad-base64 3\n",
-            status: Status::Refused,
-        }],
-    },
-    Case {
-        why: "what needs no disk is refused before the disk is asked, and who is down says no more",
-        directory: Directory::Two,
-        failing: &[(0, 11), (0, 12)],
-        runs: &[Run {
-            form: "run",
-            script: "submit alfa 1704186000 alice@alfa.example anna@alfa.example {M1}\n\
-                     submit alfa 1704186001 bob@beta.example anna@alfa.example {M1}\n\
-                     submit alfa 1704185999 alice@alfa.example anna@alfa.example {no message}\n\
-                     tick alfa 1704185999\nrestart alfa\nshow alice@alfa.example 1\n\
-                     tick alfa 1704186001\ntick alfa 1704185999\nshow alice@alfa.example 1\n\
-                     restart alfa\nbook alice@alfa.example\nrestart alfa\ntick alfa 1704186001\n\
-                     tick alfa 1704186000\n",
-            output: "accepted I0\nno-account\nclock-back 1704186000\nclock-back 1704186000\nup\nno-item\n\
-                     fault disk\ndown\ndown\nfault disk\ndown\nrestarted 2\nticked\nclock-back 1704186001\n",
-            status: Status::Done,
-        }],
-    },
-];
-
-/// Lines that say no command, and the fault of each. The tests of pec_script have each fault of each command.
-static LINES: [(&str, &str); 9] = [
-    ("Book alice@alfa.example", "unknown-word"),
-    (" book alice@alfa.example", "unknown-word"),
-    ("book", "arity"),
-    ("crash alfa ", "arity"),
+/// Lines that say no command, and the fault of each. Each fault of each command is a row of
+/// tests/vectors/commands.rows.
+static LINES: [(&str, &str); 4] = [
     ("round 01", "bad-number 1"),
     ("book bob", "bad-address 1"),
     ("inject alfa beta ???", "bad-base64 3"),
     ("crash gamma", "unknown-provider 1"),
-    ("swap alfa gamma x", "unknown-provider 2"),
 ];
 
 /// The tables, by functions without a clause: the proofs of the tests are spared their texts.
@@ -174,17 +113,13 @@ fn second() -> &'static [Case] {
     &SECOND
 }
 
-fn third() -> &'static [Case] {
-    &THIRD
-}
-
 fn lines() -> &'static [(&'static str, &'static str)] {
     &LINES
 }
 
 #[test]
 fn what_is_refused_is_told_by_its_first_cause(rt: HostRuntime) {
-    for cases in [first(), second(), third()] {
+    for cases in [first(), second()] {
         assert_eq!(rt; first_wrong(&rt, cases), None);
     }
 }

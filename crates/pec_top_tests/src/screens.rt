@@ -15,29 +15,13 @@ type Row = (&'static [usize], usize, &'static str, &'static str);
 const FROM_ALICE: &str = "submit alfa 1704186000 alice@alfa.example bob@beta.example \
      {From: alice@alfa.example|To: bob@beta.example|Subject: Ciao||PEC-VIRUS-DI-PROVA|}\n";
 
-const TWICE: &str = "submit alfa 1704186000 alice@alfa.example bob@beta.example \
-     {From: alice@alfa.example|To: bob@beta.example|Subject: Ciao||PEC-VIRUS-DI-PROVA|}\n\
-     crash alfa\nrestart alfa\nsubmit alfa 1704186000 alice@alfa.example bob@beta.example \
-     {From: alice@alfa.example|To: bob@beta.example|Subject: Ciao||PEC-VIRUS-DI-PROVA|}\n\
-     submit alfa 1704186000 alice@alfa.example bob@beta.example {M2}\nmailbox alice@alfa.example\n";
-
 const WITH_BCC: &str = "submit alfa 1704186000 alice@alfa.example bob@beta.example \
      {From: alice@alfa.example|To: bob@beta.example|Bcc: x||PEC-VIRUS-DI-PROVA|}\n";
 
-static ROWS: [Row; 6] = [
-    (&[0, 1], 2, FROM_ALICE, "not-accepted I0 virus\n"),
+static ROWS: [Row; 3] = [
     (&[0], 1, FROM_ALICE, "not-accepted I0 virus\n"),
-    (&[1], 2, FROM_ALICE, "accepted I0\n"), // another provider's screen
     (&[], 0, FROM_ALICE, "accepted I0\n"), // no lists
     (&[0], 2, WITH_BCC, "not-accepted I0 bcc\n"),
-    // A crash takes no screen away.
-    (
-        &[0],
-        2,
-        TWICE,
-        "not-accepted I0 virus\ncrashed\nrestarted 2\nnot-accepted I1 virus\naccepted I2\n\
-         0 non-acceptance I0 -\n1 non-acceptance I1 -\n2 acceptance I2 -\nmailbox 3\n",
-    ),
 ];
 
 /// The table, by a function without a clause: the proof of the test is spared its texts.

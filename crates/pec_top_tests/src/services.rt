@@ -4,4 +4,3 @@ mod faults;
 mod refusals;
 mod requests;
 mod serving;
-mod sharing;

@@ -4,9 +4,9 @@ use crate::running::{
     Given, Ran, System, bytes_of, depot_failing, lines_of, numbers, played, put, ran_at,
     written_out,
 };
-use pec_outside::{Depot, Disk, MemDepot, MemDoor};
+use pec_outside::{MemDepot, MemDoor};
 use pec_top::Status;
-use pec_trial::{alfa, two};
+use pec_trial::alfa;
 use std::alloc::Global;
 
 const RUN: &str = "submit alfa 1704186000 alice@alfa.example anna@alfa.example {M1}\n\
@@ -109,20 +109,7 @@ fn lay(rt: &impl System, depot: &mut MemDepot, script: &str) {
 }
 
 /// Words, and how a run on them ends without a connection.
-static WORDS: [(&[&str], &str, Status); 7] = [
-    (&["serve", "0"], "usage\n", Status::Usage),
-    (&["serve", "01"], "usage\n", Status::Usage),
-    (&["serve", "1000001"], "usage\n", Status::Usage),
-    (&["serve", "x"], "usage\n", Status::Usage),
-    (&["serve", "1", "1"], "usage\n", Status::Usage),
-    (&["serve"], "usage\n", Status::Usage),
-    // A line that parts a script is a part of a directory.
-    (
-        &["serve", "1"],
-        "refused directory not-toml\n",
-        Status::Refused,
-    ),
-];
+static WORDS: [(&[&str], &str, Status); 1] = [(&["serve", "0"], "usage\n", Status::Usage)];
 
 fn words() -> &'static [(&'static [&'static str], &'static str, Status)] {
     &WORDS
@@ -147,47 +134,6 @@ fn is_refused(rt: &impl System, words: &[&str], output: &str, status: Status) ->
     let mut door = door(alloc, hand_in(), &[]);
     let ran = served(rt, &mut depot, &mut door, words, "%%\n");
     ran.is(output.as_bytes(), status) && door.replies().is_empty()
-}
-
-/// A disk on which something else stands, and how the run ends.
-static STRANGE: [(u32, &str, Status); 2] = [
-    (0, "not-empty alfa\n", Status::NotEmpty),
-    // An empty disk before one that isn't.
-    (1, "not-fit alfa journal 0\n", Status::NotFit),
-];
-
-#[test]
-fn disks_are_refused(rt: HostRuntime) {
-    assert!(rt; are_strange(&rt));
-}
-
-fn are_strange(rt: &impl System) -> bool {
-    let mut right = true;
-    for (provider, output, status) in &STRANGE {
-        right = is_strange(rt, *provider, output, *status) && right;
-    }
-    right
-}
-
-fn is_strange(rt: &impl System, provider: u32, output: &str, status: Status) -> bool {
-    let alloc = rt.alloc();
-    let mut depot = depot_failing(alloc, &[]);
-    let mut door = door(alloc, hand_in(), &[]);
-    put_strange(&mut depot, provider)
-        && served(rt, &mut depot, &mut door, &["serve", "1"], two()).is(output.as_bytes(), status)
-}
-
-/// Puts something else on the disk of one of the first providers, and answers whether it could.
-fn put_strange(depot: &mut MemDepot, provider: u32) -> bool {
-    let provider = provider.min(2);
-    match depot.disk(provider) {
-        Ok(mut disk) => {
-            let wrote = disk.write_at(0, b"PECJRN2\n");
-            depot.keep(provider, disk);
-            wrote.is_ok()
-        }
-        Err(_) => false,
-    }
 }
 
 /// A device whose first call fails, or that of the journal behind the look at the disk; the replies, and the status.

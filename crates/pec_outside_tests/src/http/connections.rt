@@ -1,93 +1,11 @@
-//! Heads at their bounds, what is read of a connection, and connections that fail.
+//! What is read of a connection, and connections that fail. Heads at their bounds are rows of tests/vectors/requests.rows.
 use super::desk::Mood;
 use super::serving::{Exchange, NEVER, answers, has_status, serve};
-use crate::rows::holds_at;
-use crate::texts::{joined, put};
+use crate::texts::joined;
 use pec_http::Served;
 use std::alloc::Global;
 
 const REQUEST: &[u8] = b"GET /mail/anna@alfa.example/book HTTP/1.1\r\nx-key: chiave\r\n\r\n";
-
-/// A request for a book whose head has so many bytes.
-fn head_of(alloc: Global, bytes: usize) -> Vec<u8> {
-    let mut request = joined(alloc, &[FRONT.as_bytes(), b"x: "]);
-    let _ = request.resize(bytes.saturating_sub(4), b'x');
-    put(&mut request, b"\r\n\r\n");
-    request
-}
-
-/// A request that begins so, with two lines, and has so many behind the first.
-fn head_with(alloc: Global, front: &str, lines: u32) -> Vec<u8> {
-    let mut request = joined(alloc, &[front.as_bytes()]);
-    for _ in 1..lines {
-        put(&mut request, b"x:\r\n");
-    }
-    put(&mut request, b"\r\n");
-    request
-}
-
-// How many bytes a head has, and the status of the answer.
-static SIZES: &[(usize, u16)] = &[(65_535, 200), (65_536, 200), (65_537, 431), (70_000, 431)];
-
-#[test]
-fn a_head_has_at_most_65536_bytes(rt: HostRuntime) {
-    for row in SIZES {
-        holds_at(&rt, has_size_answered(rt.alloc(), row), row.0 as u64, "");
-    }
-}
-
-fn has_size_answered(alloc: Global, row: &(usize, u16)) -> bool {
-    let request = head_of(alloc, row.0);
-    request.len() == row.0 && answers(alloc, &request, 1000, row.1, 0)
-}
-
-/// A request for a book, and what is no request.
-const FRONT: &str = "GET /mail/anna@alfa.example/book HTTP/1.1\r\nx-key: chiave\r\n";
-
-const NO_FRONT: &str = "GET /nowhere\r\nx-key\r\n";
-
-/// What a head begins with, how many lines it has behind its first, and the status of the answer.
-type Lines = (&'static str, u32, u16);
-
-static LINES: &[Lines] = &[
-    (FRONT, 63, 200),
-    (FRONT, 64, 200),
-    (FRONT, 65, 431),
-    (FRONT, 1000, 431),
-    // of what is no head too many lines are found before that
-    (NO_FRONT, 64, 400),
-    (NO_FRONT, 65, 431),
-];
-
-#[test]
-fn a_head_has_at_most_64_lines(rt: HostRuntime) {
-    for row in LINES {
-        holds_at(
-            &rt,
-            has_count_answered(rt.alloc(), row),
-            u64::from(row.1),
-            row.0,
-        );
-    }
-}
-
-fn has_count_answered(alloc: Global, row: &Lines) -> bool {
-    let request = head_with(alloc, row.0, row.1);
-    answers(alloc, &request, 4096, row.2, 0)
-}
-
-// 65,536 bytes without an end are too many, and one byte fewer is a head that is cut: whatever they say.
-#[test]
-fn bytes_without_an_end_are_too_many(rt: HostRuntime) {
-    assert!(rt; has_endless_answered(rt.alloc(), 65_535, 400));
-    assert!(rt; has_endless_answered(rt.alloc(), 65_536, 431));
-}
-
-fn has_endless_answered(alloc: Global, count: usize, status: u16) -> bool {
-    let mut bytes = Vec::new(alloc);
-    let _ = bytes.resize(count, b'x');
-    bytes.len() == count && answers(alloc, &bytes, 4096, status, 0)
-}
 
 // Where bytes come one by one, those of a second request stay unread.
 #[test]

@@ -7,6 +7,9 @@ use crate::texts::{joined, put, put_number, says};
 use pec_http::{Served, serve_one};
 use std::alloc::Global;
 
+/// The kind of all answers but messages.
+pub const TEXT: &str = "text/plain";
+
 /// The number of a call that isn't made.
 pub const NEVER: u64 = u64::MAX;
 

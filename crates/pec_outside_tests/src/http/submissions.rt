@@ -1,10 +1,9 @@
-//! Submissions: what the desk makes of them, those that are cut, and the paths that they may have; and items, which are
+//! Submissions: what the desk makes of them, and those that are cut; and items, which are
 //! messages.
-use super::answers::TEXT;
 use super::desk::Mood;
-use super::serving::{NEVER, answers, is_answered, serve};
+use super::serving::{NEVER, TEXT, answers, is_answered, serve};
 use crate::rows::all_hold;
-use crate::texts::{are_these, put};
+use crate::texts::are_these;
 use std::alloc::Global;
 
 const SUBMISSION: &[u8] = b"POST /mail/anna@alfa.example/submit HTTP/1.1\r\nx-key: chiave\r\n\
@@ -153,43 +152,4 @@ fn first_cut_taken(alloc: Global, text: &[u8]) -> Option<usize> {
         }
     }
     None
-}
-
-#[test]
-fn a_path_has_at_most_1000_addresses(rt: HostRuntime) {
-    assert!(rt; takes_path_of(rt.alloc(), 1000));
-    assert!(rt; refuses_path_of(rt.alloc(), 1001));
-}
-
-/// Whether a submission with so many addresses in its path is handed in.
-fn takes_path_of(alloc: Global, count: usize) -> bool {
-    let request = submission_to(alloc, count);
-    answers(alloc, &request, 4096, 201, 1) && reaches_the_desk(alloc, &request, count, b"")
-}
-
-/// Whether a submission with so many addresses in its path is refused for it.
-fn refuses_path_of(alloc: Global, count: usize) -> bool {
-    let request = submission_to(alloc, count);
-    is_answered(
-        alloc,
-        Mood::Accepts,
-        &request,
-        4096,
-        TEXT,
-        (400, "bad-request\n"),
-    )
-}
-
-/// A submission with so many addresses in its path, of which there is one.
-fn submission_to(alloc: Global, count: usize) -> Vec<u8> {
-    let mut request = Vec::new(alloc);
-    put(
-        &mut request,
-        b"POST /mail/anna@alfa.example/submit HTTP/1.1\r\nx-key: chiave\r\ncontent-length: 0\r\nx-path: a@b",
-    );
-    for _ in 1..count {
-        put(&mut request, b",a@b");
-    }
-    put(&mut request, b"\r\n\r\n");
-    request
 }

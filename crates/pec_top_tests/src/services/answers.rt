@@ -1,6 +1,6 @@
 //! Answers of HTTP, written out by hand, and whether a service came to them.
 
-use super::serving::{Came, Service, served};
+use super::serving::{Service, served};
 use crate::running::{System, joined, written_out};
 use pec_outside::MemDoor;
 use pec_top::Status;
@@ -18,18 +18,8 @@ pub(crate) fn comes(
     answers: &[Answer],
     status: Status,
 ) -> bool {
-    come(rt.alloc(), &served(rt, service), lines, answers, status)
-}
-
-/// Whether what came of a service is that.
-pub(crate) fn come(
-    alloc: Global,
-    came: &Came,
-    lines: &str,
-    answers: &[Answer],
-    status: Status,
-) -> bool {
-    came.ran.writes(alloc, lines, status) && are_replied(alloc, &came.door, answers)
+    let came = served(rt, service);
+    came.ran.writes(rt.alloc(), lines, status) && are_replied(rt.alloc(), &came.door, answers)
 }
 
 /// Whether these are the replies, in order, and no others.

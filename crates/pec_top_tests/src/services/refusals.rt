@@ -21,23 +21,7 @@ const VIRUS: &str = "POST /mail/alice@alfa.example/submit HTTP/1.1|x-key: chiave
      x-path: anna@alfa.example|content-length: 86||\
      From: alice@alfa.example|To: anna@alfa.example|Subject: Ciao||PEC-VIRUS-DI-PROVA|";
 
-static ROWS: [Row; 10] = [
-    Row {
-        why: "a message is accepted",
-        request: ALICE_SUBMITS,
-        screened: false,
-        status: "201 Created",
-        body: "accepted I0\n",
-        lines: "http 201\nticked\nalfa sent alfa 1\nround\n",
-    },
-    Row {
-        why: "also where a screen finds nothing",
-        request: ALICE_SUBMITS,
-        screened: true,
-        status: "201 Created",
-        body: "accepted I0\n",
-        lines: "http 201\nticked\nalfa sent alfa 1\nround\n",
-    },
+static ROWS: [Row; 4] = [
     Row {
         why: "one in which a screen finds its pattern isn't",
         request: VIRUS,
@@ -45,14 +29,6 @@ static ROWS: [Row; 10] = [
         status: "422 Unprocessable Entity",
         body: "not-accepted I0 virus\n",
         lines: "http 422\nticked\nround\n",
-    },
-    Row {
-        why: "without screens it is",
-        request: VIRUS,
-        screened: false,
-        status: "201 Created",
-        body: "accepted I0\n",
-        lines: "http 201\nticked\nalfa sent alfa 1\nround\n",
     },
     Row {
         why: "nor is one for a path that isn't the message's",
@@ -83,30 +59,6 @@ static ROWS: [Row; 10] = [
         status: "400 Bad Request",
         body: "bad-request\n",
         lines: "http 400\nticked\nround\n",
-    },
-    Row {
-        why: "another account's key",
-        request: "GET /mail/alice@alfa.example/book HTTP/1.1|x-key: chiave-anna||",
-        screened: false,
-        status: "403 Forbidden",
-        body: "wrong-key\n",
-        lines: "http 403\nticked\nround\n",
-    },
-    Row {
-        why: "no key",
-        request: "GET /mail/alice@alfa.example/book HTTP/1.1||",
-        screened: false,
-        status: "401 Unauthorized",
-        body: "no-key\n",
-        lines: "http 401\nticked\nround\n",
-    },
-    Row {
-        why: "no account",
-        request: "GET /mail/bob@beta.example/book HTTP/1.1|x-key: chiave-bob||",
-        screened: false,
-        status: "404 Not Found",
-        body: "not-found\n",
-        lines: "http 404\nticked\nround\n",
     },
 ];
 

@@ -35,13 +35,8 @@ impl Drop for Came {
 
 /// Serves for the directory of alfa.
 pub(crate) fn served(rt: &impl System, service: &Service<'_>) -> Came {
-    served_over(rt, service, &[])
-}
-
-/// The same where these calls of disks fail, each by its provider's number and its own.
-pub(crate) fn served_over(rt: &impl System, service: &Service<'_>, failing: &[(u32, u64)]) -> Came {
     let alloc = rt.alloc();
-    let mut depot = depot_failing(alloc, failing);
+    let mut depot = depot_failing(alloc, &[]);
     let mut door = door_of(alloc, service);
     let words = ["serve", service.wanted];
     let given = Given {
