@@ -118,6 +118,13 @@ module _ (trade : Trade) (rows : RowLaws trade) (plays : PlayLaws trade) (rounds
     pub nobody_puts : (from to : ℕ) → length sites ≤ from → to < length sites → frames_between (after_round trade now cuts sites) from to ≡ []
     nobody_puts from to past lt = rounds.nobody now cuts sites from to past lt ∙ left_none from to lt
 
+    -- just the frames that were put
+    pub put_waits : (from to : ℕ) → from < length sites → to < length sites
+        → frames_between (after_round trade now cuts sites) from to ≡ slice_index_or (turned trade from now (rooms_of sites from) (cuts from) (site_at sites from)).out to []
+    put_waits from to lf lt =
+        rounds.frames now cuts sites from to lf lt
+        ∙ ap (λ (l : List Bytes). l ++ slice_index_or (turned trade from now (rooms_of sites from) (cuts from) (site_at sites from)).out to []) (left_none from to lt)
+
     abbrev put_over : ℕ → ℕ → List Bytes
     put_over from to = filter_map (gives from) (answers_over from to ++ open_over trade now sites from to)
 
@@ -135,8 +142,7 @@ module _ (trade : Trade) (rows : RowLaws trade) (plays : PlayLaws trade) (rounds
 
       waits_is : (from to : ℕ) → from < length sites → to < length sites → frames_between (after_round trade now cuts sites) from to ≡ put_over from to
       waits_is from to lf lt =
-          rounds.frames now cuts sites from to lf lt
-          ∙ ap (λ (l : List Bytes). l ++ slice_index_or (turned trade from now (rooms_of sites from) (cuts from) (site_at sites from)).out to []) (left_none from to lt)
+          put_waits from to lf lt
           ∙ ap (λ (t : Turned). slice_index_or t.out to []) (turn_whole trade rows plays rounds fits now cuts sites sound well from lf)
           ∙ plays.puts_says from (rooms_of sites from) (site_at sites from) (whole_steps trade now sites from) to (subst (λ (n : ℕ). to < n) sound.count lt)
           ∙ due_all from to lf lt

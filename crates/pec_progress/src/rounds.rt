@@ -1,16 +1,17 @@
-ghost use Rattle.std.specs.Prelude.{◌≡◌, ℕ, ◌<◌, List, [], ◌∷◌, length, Contains};
+ghost use Rattle.std.specs.Prelude.{◌≡◌, ℕ, ◌<◌, List, [], ◌∷◌, length, slice_index_or, Contains};
 ghost use Rattle.pec_types.specs.declared.letters.Letter.TheVariants as letters;
 ghost use Rattle.pec_ledger.specs.Due.{owed_letters};
 ghost use Rattle.pec_ledger.specs.Guarantees.{HasReceipt};
 ghost use Rattle.pec_ledger.specs.Ledger.{ledger};
-ghost use Rattle.pec_ledger.specs.Network.{journals_of, Site, Sound};
+ghost use Rattle.pec_ledger.specs.Network.{frames_between, journals_of, Site, site_at, Sound};
 ghost use Rattle.pec_ledger.specs.Pairs.{Pair};
 ghost use Rattle.pec_ledger.specs.Trade.{Trade};
 ghost use Rattle.pec_ledger.specs.TradeLaws.{IsTrade, LettersCanBePut};
 ghost use Rattle.pec_plays.specs.Commands.{Command, Luck, played, Round};
 ghost use Rattle.pec_plays.specs.Possible.{HaveRoom, IsQuiet, MayMeet};
-ghost use Rattle.pec_plays.specs.Turns.{Whole};
-ghost use Rattle.pec_progress.specs.Progress.{AllCarry, AllGoWell, AllOweLittle, behind, FewAreUnsettled, FollowInTime, HasOutcome, IsSettled, NoneIsEverTooLong, NothingWaits, RoundAt, StandsReady, WasAccepted, whole_steps};
+ghost use Rattle.pec_plays.specs.Rounds.{rooms_of};
+ghost use Rattle.pec_plays.specs.Turns.{Cut, turned, Whole};
+ghost use Rattle.pec_progress.specs.Progress.{after_round, AllCarry, AllGoWell, AllOweLittle, behind, FewAreUnsettled, FollowInTime, GoesWell, HasOutcome, IsSettled, NoneIsEverTooLong, NothingWaits, RoundAt, StandsReady, WasAccepted, whole_steps};
 
 use pec_ledger::{
     licensed_letters_can_be_composed, providers_agree, rows_have_their_texts, rows_stand,
@@ -44,6 +45,11 @@ pub fn rounds_bring_outcomes()
     ensures empty { (trade : Trade) → IsTrade trade → (sites : List Site) → Sound trade sites → (first second third fourth fifth : RoundAt)
         → AllGoWell trade (first ∷ second ∷ third ∷ fourth ∷ fifth ∷ []) sites → AllCarry trade (first ∷ second ∷ third ∷ fourth ∷ fifth ∷ []) sites
         → NothingWaits (behind trade (first ∷ second ∷ third ∷ fourth ∷ fifth ∷ []) sites) }
+    // behind a round that goes well just the frames wait that were put in it
+    ensures put { (trade : Trade) → IsTrade trade → (sites : List Site) → Sound trade sites → (now : ℕ) (cuts : ℕ → Cut) → GoesWell trade now cuts sites
+        → (from to : ℕ) → from < length sites → to < length sites
+        → frames_between (after_round trade now cuts sites) from to
+        ≡ slice_index_or (turned trade from now (rooms_of sites from) (cuts from) (site_at sites from)).out to [] }
     // over any number of rounds that go well
     ensures carried { (trade : Trade) → IsTrade trade → (sites : List Site) → Sound trade sites → NothingWaits sites
         → (rounds : List RoundAt) → AllGoWell trade rounds sites → AllOweLittle trade rounds sites → AllCarry trade rounds sites }

@@ -3,7 +3,7 @@ use Rattle.pec_ledger.specs.Ledger.{Fit, Journals}
 use Rattle.pec_ledger.specs.Trade.{Trade}
 use Rattle.pec_ledger.specs.TradeLaws.{IsTrade}
 use Rattle.pec_plays.specs.Commands.{Round}
-use Rattle.pec_progress.proofs.FewLemmas.{few_are_carried}
+use Rattle.pec_progress.proofs.FewLemmas.{few_are_carried, put_waits}
 use Rattle.pec_progress.proofs.FramedLemmas.{none_ever_too_long}
 use Rattle.pec_progress.proofs.LawLemmas.{ComposedLaws, FitLaws, PlayLaws, RoundLaws, RowLaws}
 use Rattle.pec_progress.proofs.ProgressLemmas.{known_behind_three, receipt_behind_three, settled_behind_four}
@@ -75,6 +75,8 @@ returns c =
           settled_behind_four trade world (rows trade) (plays trade) (rounds trade world) (fits trade world) pair first second third fourth sites sound is well carry;
       empty = λ trade world sites sound first second third fourth fifth well carry.
           quiet_behind_five trade world (rows trade) (plays trade) (rounds trade world) (fits trade world) first second third fourth fifth sites sound well carry;
+      put = λ trade world sites sound now cuts well from to lf lt.
+          put_waits trade (rows trade) (plays trade) (rounds trade world) (fits trade world) now cuts sites sound well from to lf lt;
       carried = λ trade world sites sound empty rs well little.
           few_are_carried trade (rows trade) (plays trade) (rounds trade world) (fits trade world) sites sound empty rs well little;
       few = λ trade world sites sound few rs well framed.
