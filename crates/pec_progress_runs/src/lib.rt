@@ -2,6 +2,8 @@
 //! them has its outcomes. There is no code here: each function is a law, whose contract is the statement.
 #![tactic(auto)]
 
+mod runs;
 mod scripts;
 
+pub use runs::printed_rounds_bring_outcomes;
 pub use scripts::told_rounds_bring_outcomes;

@@ -30,6 +30,8 @@ mod letters;
 #[cfg(test)]
 mod loading;
 #[cfg(test)]
+mod progress;
+#[cfg(test)]
 mod refusals;
 #[cfg(test)]
 mod running;
