@@ -1,16 +1,15 @@
 -- A run that plays honestly: its state is Sound at each command, each read gave what was kept, and its letters fit frames.
-use Rattle.std.proofs.Common.{◌≡◌, List, sym, subst, ap, Option}
+use Rattle.std.proofs.Common.{◌≡◌, List, sym, subst, Option}
 use Rattle.std.specs.List.{AllByRecursion}
 use Rattle.pec_types.specs.Bytes.{Bytes}
 use Rattle.pec_directory.specs.Directory.{Provider}
 use Rattle.pec_directory.specs.Lawful.{IsLawful}
 use Rattle.pec_letters.specs.Fitting.{Fits}
 use Rattle.pec_ledger.specs.TradeLaws.{LettersCanBePut}
-use Rattle.pec_plays.specs.Commands.{Luck}
 use Rattle.pec_plays.specs.Possible.{GaveWhatWasKept}
 use Rattle.pec_progress_runs.specs.Runs.{PlaysHonestly}
-use Rattle.pec_runs.specs.Happened.{Asked, Happened, IsSetting, Stage, providers_in, trade_in}
-use Rattle.pec_runs.specs.Openings.{Disks, Next}
+use Rattle.pec_runs.specs.Happened.{Asked, IsSetting, providers_in}
+use Rattle.pec_runs.specs.Openings.{Disks}
 use Rattle.pec_runs.specs.Ran.{Counts, HasBegun, IsAt, PlaysOn, Ran, world}
 use Rattle.pec_runs.specs.ScriptLines.{Script}
 use Rattle.pec_runs.specs.Statuses.{Status}
