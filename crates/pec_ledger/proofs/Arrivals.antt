@@ -87,16 +87,16 @@ no_letter me (Some (SeenReceipt receipt)) is =
 module _ (trade : Trade) (J : Journals) (fit : Fit trade J) where
   -- ---- originals
 
-  row_of : (id : Id) (m : Accepted) → accepted_in trade J id ≡ Some m
+  pub row_of : (id : Id) (m : Accepted) → accepted_in trade J id ≡ Some m
       → (row : Message) × (slice_get (ledger trade J id.provider).messages id.number ≡ Some row) × (accepted_of row ≡ Some m)
   row_of id m e = both_found accepted_of (slice_get (ledger trade J id.provider).messages id.number) m e
 
-  facts_of : (row : Message) (m : Accepted) → accepted_of row ≡ Some m → (row.facts ≡ Some m.facts) × (row.sender ≡ m.sender) × (row.entry ≡ m.entry)
+  pub facts_of : (row : Message) (m : Accepted) → accepted_of row ≡ Some m → (row.facts ≡ Some m.facts) × (row.sender ≡ m.sender) × (row.entry ≡ m.entry)
   facts_of row m e =
       let made = mapped (λ (facts : Facts). record { moment = row.moment; sender = row.sender; facts = facts; entry = row.entry }) row.facts m e
       in (made.1 ∙ ap (λ (a : Accepted). Some a.facts) made.2, ap (λ (a : Accepted). a.sender) made.2, ap (λ (a : Accepted). a.entry) made.2)
 
-  sent_row : (id : Id) (m : Accepted) (row : Message) → slice_get (ledger trade J id.provider).messages id.number ≡ Some row → row.facts ≡ Some m.facts
+  pub sent_row : (id : Id) (m : Accepted) (row : Message) → slice_get (ledger trade J id.provider).messages id.number ≡ Some row → row.facts ≡ Some m.facts
       → IsSentRow trade J id.provider (J id.provider) row m.facts
   sent_row id m row there facts =
       All-contains (SentRow trade J id.provider (J id.provider)) (ledger trade J id.provider).messages row (backed trade J id.provider fit).sent
@@ -135,7 +135,7 @@ module _ (trade : Trade) (J : Journals) (fit : Fit trade J) where
       let there = found_there (λ (taken : Taken). same_id id taken.id) (ledger trade J q).taken row e
       in (sym (same_ids id row.id there.1), All-contains (TakenRow trade J q (J q)) (ledger trade J q).taken row (backed trade J q fit).taken there.0)
 
-  envelope_of : (q : ℕ) (id : Id) (row : Taken) → taken_of (ledger trade J q) id ≡ Some row → (bytes : Bytes) × IsEnvelopeText trade J id q bytes × (row.recipients ≡ at_home trade q (trade.envelope_recipients bytes))
+  pub envelope_of : (q : ℕ) (id : Id) (row : Taken) → taken_of (ledger trade J q) id ≡ Some row → (bytes : Bytes) × IsEnvelopeText trade J id q bytes × (row.recipients ≡ at_home trade q (trade.envelope_recipients bytes))
   envelope_of q id row e =
       let is = taken_row q id row e
       in (is.1.envelope, subst (λ (i : Id). IsEnvelopeText trade J i q is.1.envelope) is.0 is.1.text, is.1.recipients)
@@ -230,17 +230,29 @@ module _ (trade : Trade) (J : Journals) (fit : Fit trade J) where
         ap trade.envelope_recipients is.text ∙ laws.envelope_names id is.message.moment is.original (is_sent id is.message is.original is.is)
         (accepted_in_range id is.message is.is.accepted)
 
-    pub charge_is_seen : (id : Id) (by : ℕ) (bytes : Bytes) (is : IsChargeText trade J id by bytes)
-        → trade.view bytes ≡ Some (SeenReceipt (record { kind = kinds.Charge; id = id; by = by; moment = is.row.moment; recipient = None }))
-    charge_is_seen id by bytes is =
-        ap trade.view is.text
-        ∙ laws.receipt_seen (record { kind = kinds.Charge; id = id; by = by; moment = is.row.moment; recipient = None }) is.original
-        (record {
-          sent = is_sent id is.message is.original is.is;
-          by = let pairs = (envelope_of by id is.row is.taken).1.pairs in laws.homes pairs.0 by pairs.2;
-          in_range = taken_in_range trade J fit by id is.row is.taken;
-          kind = refl;
-        })
+    -- the receipts of journals, as they are stated
+    abbrev charged : (id : Id) (by : ℕ) (bytes : Bytes) → IsChargeText trade J id by bytes → Receipt
+    charged id by bytes is = record { kind = kinds.Charge; id = id; by = by; moment = is.row.moment; recipient = None }
+
+    abbrev told : (pair : Pair) (bytes : Bytes) → IsOutcomeText trade J pair bytes → Receipt
+    told pair bytes is = record { kind = outcome_kind is.fate.decision; id = pair.id; by = is.home; moment = is.fate.moment; recipient = Some pair.recipient }
+
+    abbrev acked : (pair : Pair) (bytes : Bytes) → IsAckText trade J pair bytes → Receipt
+    acked pair bytes is = record { kind = kinds.Ack; id = pair.id; by = pair.id.provider; moment = is.row.moment; recipient = Some pair.recipient }
+
+    pub envelope_was_sent : (id : Id) (to : ℕ) (bytes : Bytes) (is : IsEnvelopeText trade J id to bytes) → IsSent trade id is.original × (is.message.moment < END_OF_TIME)
+    envelope_was_sent id to bytes is = (is_sent id is.message is.original is.is, accepted_in_range id is.message is.is.accepted)
+
+    pub charge_can : (id : Id) (by : ℕ) (bytes : Bytes) (is : IsChargeText trade J id by bytes) → CanBeComposed trade (charged id by bytes is) is.original
+    charge_can id by bytes is = record {
+      sent = is_sent id is.message is.original is.is;
+      by = let pairs = (envelope_of by id is.row is.taken).1.pairs in laws.homes pairs.0 by pairs.2;
+      in_range = taken_in_range trade J fit by id is.row is.taken;
+      kind = refl;
+    }
+
+    pub charge_is_seen : (id : Id) (by : ℕ) (bytes : Bytes) (is : IsChargeText trade J id by bytes) → trade.view bytes ≡ Some (SeenReceipt (charged id by bytes is))
+    charge_is_seen id by bytes is = ap trade.view is.text ∙ laws.receipt_seen (charged id by bytes is) is.original (charge_can id by bytes is)
 
     -- a pair that is decided is one of the message
     decided_among : (q : ℕ) (pair : Pair) (m : Accepted) (original : Bytes) → HasOriginal trade J pair.id m original → (fate : Fate) → decided_of (ledger trade J q) pair ≡ Some fate
@@ -260,30 +272,26 @@ module _ (trade : Trade) (J : Journals) (fit : Fit trade J) where
     outcome_of_kind facts (Refused refusals.MailboxFull) id by moment recipient among home = record { address = recipient; is = refl; among = among; home = home }
     outcome_of_kind facts (Refused refusals.Virus) id by moment recipient among home = record { address = recipient; is = refl; among = among; home = home }
 
-    pub outcome_is_seen : (pair : Pair) (bytes : Bytes) (is : IsOutcomeText trade J pair bytes)
-        → trade.view bytes ≡ Some (SeenReceipt (record { kind = outcome_kind is.fate.decision; id = pair.id; by = is.home; moment = is.fate.moment; recipient = Some pair.recipient }))
+    pub outcome_can : (pair : Pair) (bytes : Bytes) (is : IsOutcomeText trade J pair bytes) → CanBeComposed trade (told pair bytes is) is.original
     unfolding is_sent
-    outcome_is_seen pair bytes is =
-        ap trade.view is.text
-        ∙ laws.receipt_seen (record { kind = outcome_kind is.fate.decision; id = pair.id; by = is.home; moment = is.fate.moment; recipient = Some pair.recipient }) is.original
-        (record {
-          sent = is_sent pair.id is.message is.original is.is;
-          by = laws.homes pair.recipient is.home is.at_home;
-          in_range = fate_in_range trade J fit is.home pair is.fate is.decided;
-          kind = outcome_of_kind is.message.facts is.fate.decision pair.id is.home is.fate.moment pair.recipient
-              (decided_among is.home pair is.message is.original is.is is.fate is.decided) (is_some_by (trade.home pair.recipient) is.home is.at_home);
-        })
+    outcome_can pair bytes is = record {
+      sent = is_sent pair.id is.message is.original is.is;
+      by = laws.homes pair.recipient is.home is.at_home;
+      in_range = fate_in_range trade J fit is.home pair is.fate is.decided;
+      kind = outcome_of_kind is.message.facts is.fate.decision pair.id is.home is.fate.moment pair.recipient
+          (decided_among is.home pair is.message is.original is.is is.fate is.decided) (is_some_by (trade.home pair.recipient) is.home is.at_home);
+    }
 
-    pub ack_is_seen : (pair : Pair) (bytes : Bytes) (is : IsAckText trade J pair bytes)
-        → trade.view bytes ≡ Some (SeenReceipt (record { kind = kinds.Ack; id = pair.id; by = pair.id.provider; moment = is.row.moment; recipient = Some pair.recipient }))
+    pub outcome_is_seen : (pair : Pair) (bytes : Bytes) (is : IsOutcomeText trade J pair bytes) → trade.view bytes ≡ Some (SeenReceipt (told pair bytes is))
+    outcome_is_seen pair bytes is = ap trade.view is.text ∙ laws.receipt_seen (told pair bytes is) is.original (outcome_can pair bytes is)
+
+    pub ack_can : (pair : Pair) (bytes : Bytes) (is : IsAckText trade J pair bytes) → CanBeComposed trade (acked pair bytes is) is.original
     unfolding is_sent
-    ack_is_seen pair bytes is =
+    ack_can pair bytes is =
         let own = own_known pair.id.provider pair is.row is.known
         in let same : own.message ≡ is.message = same_Some own.message is.message (sym own.accepted ∙ is.is.accepted)
         in let sent = is_sent pair.id is.message is.original is.is
-        in ap trade.view is.text
-        ∙ laws.receipt_seen (record { kind = kinds.Ack; id = pair.id; by = pair.id.provider; moment = is.row.moment; recipient = Some pair.recipient }) is.original
-        (record {
+        in record {
           sent = sent;
           by = sent.provider;
           in_range = known_in_range trade J fit pair.id.provider pair is.row is.known;
@@ -293,7 +301,10 @@ module _ (trade : Trade) (J : Journals) (fit : Fit trade J) where
             among = subst (λ (a : Accepted). Contains (addresses_of a.facts) pair.recipient) same own.recipient.0;
             home = own.recipient.1;
           };
-        })
+        }
+
+    pub ack_is_seen : (pair : Pair) (bytes : Bytes) (is : IsAckText trade J pair bytes) → trade.view bytes ≡ Some (SeenReceipt (acked pair bytes is))
+    ack_is_seen pair bytes is = ap trade.view is.text ∙ laws.receipt_seen (acked pair bytes is) is.original (ack_can pair bytes is)
 
     -- ---- items
 

@@ -39,7 +39,7 @@ use Rattle.pec_ledger.proofs.Places.{AllInPlace, InPlace, all_there, in_place_st
 nothing_more : {X : Type 0} (test : X → Bool) (xs : List X) → times test xs ≤ 1 → times test (xs ++ []) ≤ 1
 nothing_more test xs l = subst (λ ys. times test ys ≤ 1) (sym (append-nil xs)) l
 
-all_as_before : {X : Type 0} (P : X → Type 0) (xs : List X) → All P xs → All P (xs ++ [])
+pub all_as_before : {X : Type 0} (P : X → Type 0) (xs : List X) → All P xs → All P (xs ++ [])
 all_as_before P xs all = subst (All P) (sym (append-nil xs)) all
 
 module _ (trade : Trade) (J : Journals) where

@@ -17,6 +17,7 @@ pub mod Envelopes
 pub mod Moments
 mod MoveLemmas
 pub mod Arrivals
+mod AgreeLemmas
 pub mod TableLemmas
 mod VersionLemmas
 mod VirusLemmas

@@ -1,5 +1,5 @@
 -- The small world meets all laws.
-use Rattle.std.proofs.Common.{◌≡◌, ℕ, ◌<◌, ◌≤◌, [], ◌∷◌, ◌++◌, Bool, true, false, not, ◌&&◌, ◌||◌, cond, length, refl, ap, sym, subst, ◌∙◌, arith, nat_lt, nat_le, Option, Some, None}
+use Rattle.std.proofs.Common.{◌≡◌, ℕ, ◌<◌, ◌≤◌, [], ◌∷◌, Bool, true, false, not, ◌&&◌, ◌||◌, cond, length, refl, ap, sym, subst, ◌∙◌, arith, nat_lt, nat_le, Option, Some, None}
 use Rattle.std.specs.Prelude.{IsTrue, is_some, ◌==◌, if◌then◌else◌}
 use Rattle.std.specs.List.{list_any}
 use Rattle.std.specs.Str.{bytes_eq}
@@ -19,8 +19,8 @@ use Rattle.pec_types.specs.declared.receipts.Kind.TheVariants as kinds
 use Rattle.pec_ledger.specs.Along.{AllDiffer, StandsNotIn}
 use Rattle.pec_ledger.specs.Lookups.{addresses_of}
 use Rattle.pec_ledger.specs.Pairs.{id_of}
-use Rattle.pec_ledger.specs.SmallWorld.{frame_along, framed_in, address, all_differ, cause_in, envelope_in, facts_from, facts_in, has_account, home_in, kind_at, kind_code, path_in, receipt_in, recipient_at, recipient_text, seen_in, small, unless_twice}
-use Rattle.pec_ledger.specs.Trade.{Receipt, Seen, SeenEnvelope, SeenReceipt}
+use Rattle.pec_ledger.specs.SmallWorld.{frame_along, framed_behind, framed_in, path_before, with_address, address, all_differ, cause_in, envelope_in, facts_from, facts_in, has_account, home_in, kind_at, kind_code, path_in, receipt_in, recipient_at, recipient_text, seen_in, small, unless_twice}
+use Rattle.pec_ledger.specs.Trade.{Framed, Receipt, Seen, SeenEnvelope, SeenReceipt}
 use Rattle.pec_ledger.specs.TradeLaws.{CanBeComposed, IsOfKind, IsTrade}
 
 -- ---- the directory
@@ -178,14 +178,17 @@ receipt_seen receipt original can =
 
 -- ---- frames
 
-framed_back : (one message : Bytes) → framed_in (length one ∷ one ++ message) ≡ Some (record { path = one ∷ []; message = message })
-framed_back one message = rw (take_at one message (length one) refl, drop_at one message (length one) refl) refl
+framed_back : (path : Path) (message : Bytes) → framed_behind (length path) (path_before path message) ≡ record { path = path; message = message }
+framed_back [] message = refl
+framed_back (one ∷ others) message =
+    let rest = path_before others message
+    in rw (take_at one rest (length one) refl, drop_at one rest (length one) refl) (ap (with_address one) (framed_back others message))
 
 frames_back : (path : Path) (message frame : Bytes) → frame_along path message ≡ Some frame → framed_in frame ≡ Some (record { path = path; message = message })
 frames_back [] message frame e = absurd (none-some frame e)
-frames_back (one ∷ []) message frame e =
-    subst (λ (f : Bytes). framed_in f ≡ Some (record { path = one ∷ []; message = message })) (same_Some (length one ∷ one ++ message) frame e) (framed_back one message)
-frames_back (one ∷ other ∷ path) message frame e = absurd (none-some frame e)
+frames_back (one ∷ others) message frame e =
+    subst (λ (f : Bytes). framed_in f ≡ Some (record { path = one ∷ others; message = message }))
+    (same_Some (length (one ∷ others) ∷ path_before (one ∷ others) message) frame e) (ap (λ (x : Framed). Some x) (framed_back (one ∷ others) message))
 
 pub small_is_trade : IsTrade small
 small_is_trade = record {

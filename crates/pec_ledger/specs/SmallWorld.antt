@@ -2,7 +2,7 @@
 -- world that meets all laws of `IsTrade`, and the examples are computed in it. An address is the number of its provider
 -- and a name; names from 9 on are no accounts, and the name 2 has room for one item. A message is its sender's address
 -- and its recipients, each a class (0 for primary), a provider and a name.
-use Rattle.std.specs.Prelude.{ℕ, ◌==◌, nat_lt, nat_le, Bool, true, false, not, ◌&&◌, List, [], ◌∷◌, ◌++◌, length, take, drop, if◌then◌else◌, Option, Some, None, is_some}
+use Rattle.std.specs.Prelude.{ℕ, zero, suc, ◌==◌, nat_lt, nat_le, Bool, true, false, not, ◌&&◌, List, [], ◌∷◌, ◌++◌, length, take, drop, if◌then◌else◌, Option, Some, None, is_some}
 use Rattle.std.specs.List.{list_any}
 use Rattle.std.specs.Str.{bytes_eq}
 use Rattle.pec_types.specs.Bytes.{Bytes, Path}
@@ -153,17 +153,32 @@ abbrev pub seen_in : Bytes → Option Seen
 seen_in [] = None
 seen_in (what ∷ rest) = if what == 1 then envelope_in rest else (if what == 2 then receipt_in rest else None)
 
--- ---- frames: along a path of one address alone
+-- ---- frames: how many addresses there are, each behind its length, and the message
 
--- the frame of a message along such a path
+-- the addresses of a path, each behind its length, before a message
+abbrev pub path_before : Path → Bytes → Bytes
+path_before [] message = message
+path_before (one ∷ others) message = length one ∷ one ++ path_before others message
+
+-- the frame of a message along a path of some addresses
 abbrev pub frame_along : Path → Bytes → Option Bytes
-frame_along (one ∷ []) message = Some (length one ∷ one ++ message)
-frame_along _ message = None
+frame_along [] message = None
+frame_along (one ∷ others) message = Some (length (one ∷ others) ∷ path_before (one ∷ others) message)
+
+-- an address before those of a frame
+abbrev pub with_address : Bytes → Framed → Framed
+with_address one framed = record { path = one ∷ framed.path; message = framed.message }
+
+-- so many addresses, and what is behind them
+abbrev pub framed_behind : ℕ → Bytes → Framed
+framed_behind zero rest = record { path = []; message = rest }
+framed_behind (suc more) [] = record { path = []; message = [] }
+framed_behind (suc more) (size ∷ rest) = with_address (take size rest) (framed_behind more (drop size rest))
 
 -- what stands in a frame: its path and its message
 abbrev pub framed_in : Bytes → Option Framed
 framed_in [] = None
-framed_in (size ∷ rest) = Some (record { path = take size rest ∷ []; message = drop size rest })
+framed_in (count ∷ rest) = Some (framed_behind count rest)
 
 -- ---- the world
 

@@ -1,7 +1,7 @@
 -- What is true of the world that the ledger asks: `IsTrade`. Each law names who has to prove it: the directory, heads,
 -- admission, letters, receipts, seals and frames. They have premises, which journals that are Fit always meet: without
 -- them no world would meet all laws.
-use Rattle.std.specs.Prelude.{◌≡◌, ℕ, ◌<◌, ◌≤◌, true, [], length, Contains, Option, Some, None, IsSome, IsTrue}
+use Rattle.std.specs.Prelude.{◌≡◌, ℕ, ◌<◌, ◌≤◌, true, [], ◌∷◌, length, Contains, Option, Some, None, IsSome, IsTrue}
 use Rattle.std.specs.Option.{option_and_then}
 use Rattle.pec_types.specs.Bytes.{Bytes, Path}
 use Rattle.pec_types.specs.Message.{Id}
@@ -16,7 +16,7 @@ use Rattle.pec_types.specs.declared.receipts.Kind.{Kind}
 use Rattle.pec_types.specs.declared.receipts.Kind.TheVariants as kinds
 use Rattle.pec_records.specs.Entry.{most_addresses}
 use Rattle.pec_ledger.specs.Along.{AllDiffer}
-use Rattle.pec_ledger.specs.Lookups.{addresses_of}
+use Rattle.pec_ledger.specs.Lookups.{addresses_of, at_home}
 use Rattle.pec_ledger.specs.Trade.{Receipt, Seen, SeenEnvelope, SeenReceipt, Trade}
 
 -- ---- which letter a message is
@@ -125,3 +125,16 @@ pub record IsTrade (trade : Trade) : Type 0 where
   -- Frames: what was framed stands in the frame.
   pub frames : (path : Path) (message frame : Bytes) → trade.framed path message ≡ Some frame
       → trade.unframed frame ≡ Some (record { path = path; message = message })
+
+-- ---- how long frames are
+
+-- The letters of each message that was sent can be put: the frame of none is too long, along the path on which it goes.
+pub record LettersCanBePut (trade : Trade) : Type 0 where
+  pub envelopes : (id : Id) (moment : ℕ) (original : Bytes) (sent : IsSent trade id original) → moment < END_OF_TIME
+      → (to : ℕ) → 0 < length (at_home trade to (addresses_of sent.facts))
+      → IsSome (trade.framed (at_home trade to (addresses_of sent.facts)) (trade.envelope_text id moment original))
+  pub to_senders : (receipt : Receipt) (original : Bytes) (can : CanBeComposed trade receipt original)
+      → IsSome (trade.framed (can.sent.facts.sender ∷ []) (trade.receipt_text receipt original))
+  pub to_providers : (receipt : Receipt) (original : Bytes) → CanBeComposed trade receipt original
+      → (provider : ℕ) → provider < trade.providers
+      → IsSome (trade.framed (trade.receipts provider ∷ []) (trade.receipt_text receipt original))

@@ -1,4 +1,4 @@
-ghost use Rattle.std.specs.Prelude.{◌≡◌, ℕ, ◌⊎◌, List, Contains, IsSome, Option, Some, None, slice_get};
+ghost use Rattle.std.specs.Prelude.{◌≡◌, ℕ, ◌<◌, ◌⊎◌, List, Contains, IsSome, Option, Some, None, slice_get};
 ghost use Rattle.pec_types.specs.Bytes.{Bytes};
 ghost use Rattle.pec_types.specs.Message.{Id};
 ghost use Rattle.pec_types.specs.declared.letters.Letter.{Letter as SomeLetter};
@@ -6,6 +6,7 @@ ghost use Rattle.pec_types.specs.declared.letters.Letter.TheVariants as letters;
 ghost use Rattle.pec_types.specs.declared.messages.Decision.{Decision as SomeDecision};
 ghost use Rattle.pec_types.specs.declared.messages.Decision.TheVariants as decisions;
 ghost use Rattle.pec_types.specs.declared.messages.Refusal.TheVariants as refusals;
+ghost use Rattle.pec_types.specs.declared.moments.TheConstants.{END_OF_TIME};
 ghost use Rattle.pec_types.specs.declared.receipts.Kind.TheVariants as kinds;
 ghost use Rattle.pec_records.specs.declared.entries.Entry.{Entry};
 ghost use Rattle.pec_records.specs.declared.entries.Entry.TheVariants as entries;
@@ -18,7 +19,7 @@ ghost use Rattle.pec_ledger.specs.Own.{IsOwnPair, IsTakenPair};
 ghost use Rattle.pec_ledger.specs.Pairs.{Pair, pair_of};
 ghost use Rattle.pec_ledger.specs.Steps.{half};
 ghost use Rattle.pec_ledger.specs.Trade.{Receipt, SeenEnvelope, SeenReceipt, Trade};
-ghost use Rattle.pec_ledger.specs.TradeLaws.{IsTrade, letter_in};
+ghost use Rattle.pec_ledger.specs.TradeLaws.{CanBeComposed, IsSent, IsTrade, letter_in};
 
 /// In journals that are Fit each accepted message has its original at its entry, each taken one its envelope, each row
 /// licenses its letter, each licensed letter has one text, a pair is decided at its recipient's home alone, where it
@@ -99,6 +100,44 @@ pub fn texts_are_seen()
     ensures items { (trade : Trade) (journals : Journals) → Fit trade journals → IsTrade trade
         → (bytes : Bytes) → IsItemText trade journals bytes
         → ((letter : SomeLetter) × IsLicensedText trade journals letter bytes) ⊎ ((me : ℕ) → letter_in trade me bytes ≡ None) }
+{}
+
+/// In journals that are Fit each licensed letter can be composed: the message of an envelope was sent, at a moment that a
+/// clock tells, and a charge, an outcome and an acknowledgement are receipts that can be composed of theirs.
+pub fn licensed_letters_can_be_composed()
+    ensures envelopes { (trade : Trade) (journals : Journals) → Fit trade journals → IsTrade trade
+        → (id : Id) (to : ℕ) (bytes : Bytes) (is : IsEnvelopeText trade journals id to bytes)
+        → IsSent trade id is.original × (is.message.moment < END_OF_TIME) }
+    ensures charges { (trade : Trade) (journals : Journals) → Fit trade journals → IsTrade trade
+        → (id : Id) (by : ℕ) (bytes : Bytes) (is : IsChargeText trade journals id by bytes)
+        → CanBeComposed trade
+        (record {
+          kind = kinds.Charge;
+          id = id;
+          by = by;
+          moment = is.row.moment;
+          recipient = None;
+        }) is.original }
+    ensures outcomes { (trade : Trade) (journals : Journals) → Fit trade journals → IsTrade trade
+        → (pair : Pair) (bytes : Bytes) (is : IsOutcomeText trade journals pair bytes)
+        → CanBeComposed trade
+        (record {
+          kind = outcome_kind is.fate.decision;
+          id = pair.id;
+          by = is.home;
+          moment = is.fate.moment;
+          recipient = Some pair.recipient;
+        }) is.original }
+    ensures acks { (trade : Trade) (journals : Journals) → Fit trade journals → IsTrade trade
+        → (pair : Pair) (bytes : Bytes) (is : IsAckText trade journals pair bytes)
+        → CanBeComposed trade
+        (record {
+          kind = kinds.Ack;
+          id = pair.id;
+          by = pair.id.provider;
+          moment = is.row.moment;
+          recipient = Some pair.recipient;
+        }) is.original }
 {}
 
 /// A genuine message that is seen as an envelope, a charge, an outcome or an acknowledgement meets the joint condition

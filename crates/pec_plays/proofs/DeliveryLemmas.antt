@@ -92,3 +92,12 @@ module _ (trade : Trade) (now : ℕ) (cuts : ℕ → Cut) (sites : List Site) wh
       ap (λ (s : Site). slice_index_or s.waiting from []) (after_is to l)
       ∙ put_behind to (outs_of turns) (turn_in to).site.waiting from
       ∙ ap (λ (out : List (List Bytes)). slice_index_or (turn_in to).site.waiting from [] ++ slice_index_or out to []) (out_at turns from (turn_in from) (turn_is from m))
+
+  pub nothing_from : (from to : ℕ) → length sites ≤ from → to < length sites → frames_between after from to ≡ slice_index_or (turn_in to).site.waiting from []
+  nothing_from from to past l =
+      let count = outs_length turns ∙ turns_length trade now sites cuts 0 sites
+      in ap (λ (s : Site). slice_index_or s.waiting from []) (after_is to l)
+      ∙ put_behind to (outs_of turns) (turn_in to).site.waiting from
+      ∙ ap (λ (out : List (List Bytes)). slice_index_or (turn_in to).site.waiting from [] ++ slice_index_or out to [])
+      (get_or_past (outs_of turns) from [] (omega (arith, past, count)))
+      ∙ append-nil (slice_index_or (turn_in to).site.waiting from [])

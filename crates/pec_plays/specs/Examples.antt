@@ -81,7 +81,7 @@ no_such_place = writes_to bob ∷ Round 1704186001 ∷ Round 1704186002 ∷ Swap
 
 -- that message, in a frame with bob in its path
 abbrev pub unsealed : Bytes
-unsealed = length bob ∷ bob ++ 9 ∷ []
+unsealed = 1 ∷ length bob ∷ bob ++ 9 ∷ []
 
 -- both come on the link from alfa to beta; a round follows, and bob's mailbox is shown
 abbrev pub from_outside : List Command

@@ -1,4 +1,5 @@
 pub mod Commands
+pub mod Composed
 pub mod Decisions
 pub mod Examples
 pub mod Frames

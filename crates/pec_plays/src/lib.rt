@@ -26,8 +26,8 @@ pub use rules::{
 };
 pub use runs::{a_command_appends, answers_settle_the_state, no_two_answers, quiet_runs_are_one};
 pub use soundness::{
-    a_cut_turn_is_a_front, a_network_stays_sound, due_letters_are_composed,
-    taken_messages_have_originals, undecided_pairs,
+    a_cut_turn_is_a_front, a_network_stays_sound, composed_letters_are_licensed,
+    due_letters_are_composed, taken_messages_have_originals, undecided_pairs,
 };
 pub use turns::{
     a_cut_is_told, a_plan_goes_step_by_step, a_turn_puts_what_is_due, frames_are_taken_in_order,

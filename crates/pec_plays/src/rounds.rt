@@ -1,4 +1,4 @@
-ghost use Rattle.std.specs.Prelude.{◌≡◌, ℕ, ◌<◌, List, [], ◌++◌, length, slice_get, slice_index_or, Some};
+ghost use Rattle.std.specs.Prelude.{◌≡◌, ℕ, ◌<◌, ◌≤◌, List, [], ◌++◌, length, slice_get, slice_index_or, Some};
 ghost use Rattle.pec_ledger.specs.Network.{frames_between, interrupted_at, is_up, journal_at, Site, site_at};
 ghost use Rattle.pec_ledger.specs.Trade.{Trade};
 ghost use Rattle.pec_plays.specs.Rounds.{rooms_of, rounded, turns_of};
@@ -26,4 +26,8 @@ pub fn a_round_is_its_turns()
         → frames_between (rounded trade now cuts sites).sites from to
         ≡ slice_index_or (turned trade to now (rooms_of sites to) (cuts to) (site_at sites to)).site.waiting from []
         ++ slice_index_or (turned trade from now (rooms_of sites from) (cuts from) (site_at sites from)).out to [] }
+    // from where no provider is nothing is put
+    ensures nobody { (trade : Trade) (now : ℕ) (cuts : ℕ → Cut) (sites : List Site) (from to : ℕ) → length sites ≤ from → to < length sites
+        → frames_between (rounded trade now cuts sites).sites from to
+        ≡ slice_index_or (turned trade to now (rooms_of sites to) (cuts to) (site_at sites to)).site.waiting from [] }
 {}

@@ -9,12 +9,13 @@ ghost use Rattle.pec_ledger.specs.Half.{Known, Taken};
 ghost use Rattle.pec_ledger.specs.Ledger.{Fit, Journals, ledger};
 ghost use Rattle.pec_ledger.specs.Lookups.{decided_of, known_of, taken_of};
 ghost use Rattle.pec_ledger.specs.Tables.{IsOwedEnvelope, IsOwedOutcome};
-ghost use Rattle.pec_plays.specs.Frames.{composed, due_frames, original_taken};
+ghost use Rattle.pec_plays.specs.Composed.{IsComposed, IsFrameOf};
+ghost use Rattle.pec_plays.specs.Frames.{composed, due_frames, frame_of, original_taken};
 ghost use Rattle.pec_ledger.specs.Network.{AreGenuine, IsNext, Site, Sound};
 ghost use Rattle.pec_ledger.specs.Own.{IsTakenPair};
 ghost use Rattle.pec_ledger.specs.Pairs.{Pair, pair_of};
 ghost use Rattle.pec_ledger.specs.Steps.{half};
-ghost use Rattle.pec_ledger.specs.Trade.{Trade};
+ghost use Rattle.pec_ledger.specs.Trade.{Framed, Trade};
 ghost use Rattle.pec_ledger.specs.TradeLaws.{IsTrade};
 ghost use Rattle.pec_plays.specs.Commands.{Command, Luck, played};
 ghost use Rattle.pec_plays.specs.Decisions.{Looks, undecided};
@@ -99,6 +100,20 @@ pub fn due_letters_are_composed()
     // and the frames of what is composed are genuine
     ensures frames { (trade : Trade) → IsTrade trade → (journals : Journals) → Fit trade journals
         → (provider to room : ℕ) (owed : List SomeLetter) → AreGenuine trade journals (due_frames trade provider (journals provider) to room owed) }
+{
+    rows_have_their_texts();
+    texts_are_seen();
+}
+
+/// In journals that are Fit what a provider composes of a letter is the letter's one text, in the provider's own name and
+/// along the path on which it goes; and this stands in the frame of the letter.
+pub fn composed_letters_are_licensed()
+    ensures composed { (trade : Trade) → IsTrade trade → (journals : Journals) → Fit trade journals
+        → (provider : ℕ) (letter : SomeLetter) (framed : Framed) → composed trade provider (journals provider) letter ≡ Some framed
+        → IsComposed trade journals provider letter framed }
+    ensures framed { (trade : Trade) → IsTrade trade → (journals : Journals) → Fit trade journals
+        → (provider : ℕ) (letter : SomeLetter) (frame : Bytes) → frame_of trade provider (journals provider) letter ≡ Some frame
+        → IsFrameOf trade journals provider letter frame }
 {
     rows_have_their_texts();
     texts_are_seen();

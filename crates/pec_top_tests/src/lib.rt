@@ -29,6 +29,8 @@ mod ldif;
 #[cfg(test)]
 mod loading;
 #[cfg(test)]
+mod progress;
+#[cfg(test)]
 mod refusals;
 #[cfg(test)]
 mod running;

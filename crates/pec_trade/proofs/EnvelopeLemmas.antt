@@ -64,7 +64,7 @@ subject_is : (subject : Option Bytes) → IfSome subject IsShortText → IfSome 
 subject_is None h = tt
 subject_is (Some subject) h = record { printable = h.printable; short = h.short }
 
-lower_where : (passes : Recipient → Bool) (all : List Recipient) → AllByRecursion (λ (r : Recipient). IsLowerAddress r.address) all → AllByRecursion IsLowerAddress (addresses_where passes all)
+pub lower_where : (passes : Recipient → Bool) (all : List Recipient) → AllByRecursion (λ (r : Recipient). IsLowerAddress r.address) all → AllByRecursion IsLowerAddress (addresses_where passes all)
 lower_where passes [] h = tt
 lower_where passes (r ∷ all) h = kept (passes r) r.address (addresses_where passes all) h.0 (lower_where passes all h.1)
   where

@@ -12,6 +12,8 @@ mod SentLemmas
 mod EnvelopeLemmas
 mod ReceiptLemmas
 mod NoticeLemmas
+mod LengthLemmas
+mod PuttingLemmas
 mod TradeLemmas
 mod WorldLemmas
 mod LawfulLemmas

@@ -50,14 +50,14 @@ lower_among (r ∷ all) a lower (zero, within, is) = subst IsLowerAddress is low
 lower_among (r ∷ all) a lower (suc k, within, is) = lower_among all a lower.1 (k, omega arith, is)
 
 module _ (kept : List Kept) (seals : Seals) (receipt : Receipt) (facts : Facts) where
-  abbrev OfKind : Kind → Type 0
+  abbrev pub OfKind : Kind → Type 0
   OfKind kind = IsOfKind (trade_of kept seals) facts kind receipt
 
   -- the recipient that is named, if one is
-  abbrev Named : Type 0
+  abbrev pub Named : Type 0
   Named = (receipt.recipient ≡ None) ⊎ Names (trade_of kept seals) facts receipt.recipient
 
-  named_or_not : (kind : Kind) → OfKind kind → Named
+  pub named_or_not : (kind : Kind) → OfKind kind → Named
   named_or_not kinds.Acceptance of = inl of.1
   named_or_not (kinds.NonAcceptance cause) of = absurd of
   named_or_not kinds.Charge of = inl of
@@ -69,7 +69,7 @@ module _ (kept : List Kept) (seals : Seals) (receipt : Receipt) (facts : Facts) 
   named_or_not kinds.LateNotice of = inr of.1
   named_or_not kinds.Ack of = inr of
 
-  lower_named : ArePrintable facts → Named → IfSome receipt.recipient IsLowerAddress
+  pub lower_named : ArePrintable facts → Named → IfSome receipt.recipient IsLowerAddress
   lower_named printable (inl none) = subst (λ (o : Option Bytes). IfSome o IsLowerAddress) (sym none) tt
   lower_named printable (inr names) =
       subst (λ (o : Option Bytes). IfSome o IsLowerAddress) (sym names.is) (lower_among facts.recipients names.address printable.recipients names.among)

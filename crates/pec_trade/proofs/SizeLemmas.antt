@@ -129,7 +129,7 @@ sign_one : (ahead : Bool) → length (sign_word ahead) ≡ 1
 sign_one true = refl
 sign_one false = refl
 
-zone_five : (zone : ShownZone) → length (zone_text zone) ≡ 5
+pub zone_five : (zone : ShownZone) → length (zone_text zone) ≡ 5
 zone_five zone =
     let same : length (zone_text zone) ≡ length (sign_word zone.ahead) + 4 = length-append (sign_word zone.ahead) (two_digits zone.hours ++ two_digits zone.minutes)
     in omega (arith, same, sign_one zone.ahead)
@@ -218,7 +218,7 @@ day_line_small stamp =
       zone_five shown.zone,
     )
 
-subject_small : (prefix : Bytes) (subject : Option Bytes) → IfSome subject (λ text. length text ≤ 1000) → length (with_subject prefix subject) ≤ length prefix + 1000
+pub subject_small : (prefix : Bytes) (subject : Option Bytes) → IfSome subject (λ text. length text ≤ 1000) → length (with_subject prefix subject) ≤ length prefix + 1000
 subject_small prefix None small = omega (arith, length-append prefix [])
 subject_small prefix (Some subject) small = omega (arith, length-append prefix subject)
 
@@ -238,13 +238,13 @@ told_small providers id stamp facts phrase sender subject name short =
 
 -- ---- parts
 
-part_small : (kind : PartKind) (body : Bytes) → length (part_text kind body) ≤ length body + 300
+pub part_small : (kind : PartKind) (body : Bytes) → length (part_text kind body) ≤ length body + 300
 part_small parts.Text body = omega (arith, length-append (head_text (part_fields parts.Text)) (13 ∷ 10 ∷ body))
 part_small parts.Message body = omega (arith, length-append (head_text (part_fields parts.Message)) (13 ∷ 10 ∷ body))
 part_small parts.Certificate body = omega (arith, length-append (head_text (part_fields parts.Certificate)) (13 ∷ 10 ∷ body))
 
 -- The parts have far less than 2^64 bytes.
-pub parts_small : (text certificate : Bytes) (message : Option Bytes) → length text ≤ 6000 → length certificate ≤ 8000000 → IfSome message (λ m. length m ≤ 67108864)
+pub parts_small : (text certificate : Bytes) (message : Option Bytes) → length text ≤ 6000 → length certificate ≤ 4060000 → IfSome message (λ m. length m ≤ 67108864)
     → bytes_of (parts_of (record { text = text; message = message; certificate = Some certificate })) < 2 ^ 64
 unfolding parts_of
 parts_small text certificate None short small m =

@@ -87,6 +87,7 @@ letter_there texts seals provider heading parts name named small =
 
 -- what a row says is printable and short
 pub record Right (said : Said) : Type 0 where
+  pub word : length said.word ≤ 100
   pub phrase : length said.phrase ≤ 200
   pub behind : length said.behind ≤ 200
   pub printable : IfSome said.detail AllPrintable
@@ -114,19 +115,19 @@ refusal_shows refusals.NoMailbox = refl
 refusal_shows refusals.MailboxFull = refl
 refusal_shows refusals.Virus = refl
 
-row_right : Texts → (kind : Kind) → IsRight (row_of kind).said
+pub row_right : Texts → (kind : Kind) → IsRight (row_of kind).said
 unfolding row_of
-row_right texts kinds.Acceptance = record { phrase = omega arith; behind = omega arith; printable = tt; detail = tt }
+row_right texts kinds.Acceptance = record { word = omega arith; phrase = omega arith; behind = omega arith; printable = tt; detail = tt }
 row_right texts (kinds.NonAcceptance cause) =
-    record { phrase = omega arith; behind = omega arith; printable = cause_shows texts cause; detail = omega (arith, cause_small texts cause) }
-row_right texts kinds.Charge = record { phrase = omega arith; behind = omega arith; printable = tt; detail = tt }
-row_right texts kinds.Delivery = record { phrase = omega arith; behind = omega arith; printable = tt; detail = tt }
+    record { word = omega arith; phrase = omega arith; behind = omega arith; printable = cause_shows texts cause; detail = omega (arith, cause_small texts cause) }
+row_right texts kinds.Charge = record { word = omega arith; phrase = omega arith; behind = omega arith; printable = tt; detail = tt }
+row_right texts kinds.Delivery = record { word = omega arith; phrase = omega arith; behind = omega arith; printable = tt; detail = tt }
 row_right texts (kinds.DeliveryError refusal) =
-    record { phrase = omega arith; behind = omega arith; printable = refusal_shows refusal; detail = omega (arith, refusal_small refusal) }
-row_right texts kinds.VirusFound = record { phrase = omega arith; behind = omega arith; printable = refl; detail = omega arith }
-row_right texts kinds.Warning = record { phrase = omega arith; behind = omega arith; printable = refl; detail = omega arith }
-row_right texts kinds.Notice = record { phrase = omega arith; behind = omega arith; printable = refl; detail = omega arith }
-row_right texts kinds.LateNotice = record { phrase = omega arith; behind = omega arith; printable = refl; detail = omega arith }
+    record { word = omega arith; phrase = omega arith; behind = omega arith; printable = refusal_shows refusal; detail = omega (arith, refusal_small refusal) }
+row_right texts kinds.VirusFound = record { word = omega arith; phrase = omega arith; behind = omega arith; printable = refl; detail = omega arith }
+row_right texts kinds.Warning = record { word = omega arith; phrase = omega arith; behind = omega arith; printable = refl; detail = omega arith }
+row_right texts kinds.Notice = record { word = omega arith; phrase = omega arith; behind = omega arith; printable = refl; detail = omega arith }
+row_right texts kinds.LateNotice = record { word = omega arith; phrase = omega arith; behind = omega arith; printable = refl; detail = omega arith }
 row_right texts kinds.Ack = tt
 
 -- ---- recipients
@@ -195,16 +196,20 @@ bounded_small printable facts bounded some few = record {
   reference = text_small facts.reference bounded.reference;
 }
 
-longer : (text : Option Bytes) → IfSome text (λ t. length t ≤ 900) → IfSome text (λ t. length t ≤ 1000)
+pub longer : (text : Option Bytes) → IfSome text (λ t. length t ≤ 900) → IfSome text (λ t. length t ≤ 1000)
 longer None short = tt
 longer (Some text) short = omega (arith, short)
+
+longer_message : (message : Option Bytes) → IfSome message (λ m. length m ≤ 41943040) → IfSome message (λ m. length m ≤ 67108864)
+longer_message None short = tt
+longer_message (Some message) short = omega (arith, short)
 
 -- what a receipt shows of the message isn't too long
 abbrev pub MessageFits : Receipt → Said → Bytes → Type 0
 MessageFits r said original = IfSome (message_in r said original) (λ m. length m ≤ 67108864)
 
 module _ (texts : Texts) where
-  all_short : (all : List Recipient) → AllByRecursion (λ (r : Recipient). IsLowerAddress r.address) all → AreShort all
+  pub all_short : (all : List Recipient) → AllByRecursion (λ (r : Recipient). IsLowerAddress r.address) all → AreShort all
   all_short [] lower = tt
   all_short (r ∷ all) lower = ((texts.address r.address lower.0).1, all_short all lower.1)
 
@@ -216,7 +221,7 @@ module _ (texts : Texts) where
   pub certificate_small : (providers : List Provider) (issuer : Bytes) (id : Id) (stamp : Instant) (facts : Facts) (report : Report)
       → IsLawful providers → id.provider < length providers → length issuer ≤ 32 → AreSmall facts
       → IfSome report.delivered (λ text. length text ≤ 1000) → length (flat_map received_line report.received) ≤ 2000 * 1000
-      → IfSome report.detail (λ text. length text ≤ 1000) → length (cert_text (certificate_of providers issuer id stamp facts report)) ≤ 8000000
+      → IfSome report.detail (λ text. length text ≤ 1000) → length (cert_text (certificate_of providers issuer id stamp facts report)) ≤ 4060000
   unfolding certificate_of
   certificate_small providers issuer id stamp facts report lawful within short small delivered received detail =
       let small_one : IsSmall (certificate_of providers issuer id stamp facts report) 1000 = record {
@@ -338,29 +343,29 @@ module _ (texts : Texts) where
 
   -- ---- how long a receipt is
 
-  brief_small : (original : Bytes) → length original ≤ 31457280 → length (brief_of original) ≤ 67108864
+  brief_small : (original : Bytes) → length original ≤ 31457280 → length (brief_of original) ≤ 41943040
   brief_small original small = by (((texts.brief original (brief_of original)).0 refl))
     where
-      by : IsBrief original (brief_of original) → length (brief_of original) ≤ 67108864
+      by : IsBrief original (brief_of original) → length (brief_of original) ≤ 41943040
       by (inl short) = omega (arith, short.1)
       by (inr whole) = omega (arith, ap length whole.1, small)
 
-  shown_small : (wish : Wish) (class : Option Class) (original : Bytes) → length original ≤ 31457280 → IfSome (shown_message wish class original) (λ m. length m ≤ 67108864)
+  shown_small : (wish : Wish) (class : Option Class) (original : Bytes) → length original ≤ 31457280 → IfSome (shown_message wish class original) (λ m. length m ≤ 41943040)
   shown_small wishes.Full None original small = tt
   shown_small wishes.Full (Some classes.Primary) original small = omega (arith, small)
   shown_small wishes.Full (Some classes.Copy) original small = tt
   shown_small wishes.Brief class original small = brief_small original small
   shown_small wishes.Concise class original small = tt
 
-  message_small : (r : Receipt) (said : Said) (original : Bytes) → length original ≤ 31457280 → IfSome (message_in r said original) (λ m. length m ≤ 67108864)
+  pub message_small : (r : Receipt) (said : Said) (original : Bytes) → length original ≤ 31457280 → IfSome (message_in r said original) (λ m. length m ≤ 41943040)
   unfolding message_in
   message_small r said original small = by said.delivers
     where
-      by : (t : Bool) → IfSome (cond t (shown_message r.facts.wish (class_of r) original) None) (λ m. length m ≤ 67108864)
+      by : (t : Bool) → IfSome (cond t (shown_message r.facts.wish (class_of r) original) None) (λ m. length m ≤ 41943040)
       by true = shown_small r.facts.wish (class_of r) original small
       by false = tt
 
-  recipient_small : (found : Option Bytes) → IfSome found IsLowerAddress → length (or_nothing found) ≤ 254
+  pub recipient_small : (found : Option Bytes) → IfSome found IsLowerAddress → length (or_nothing found) ≤ 254
   recipient_small None lower = omega arith
   recipient_small (Some address) lower = (texts.address address lower).1
 
@@ -382,7 +387,7 @@ module _ (texts : Texts) where
   explained_small true None small = omega arith
   explained_small true (Some detail) small = omega (arith, length-append (codes ": ") detail, small)
 
-  phrase_small : (issuer : Bytes) (r : Receipt) (said : Said) → length issuer ≤ 32 → IfSome r.recipient IsLowerAddress → Right said
+  pub phrase_small : (issuer : Bytes) (r : Receipt) (said : Said) → length issuer ≤ 32 → IfSome r.recipient IsLowerAddress → Right said
       → length (phrase_of issuer r (row_of r.kind) said) ≤ 2000
   unfolding phrase_of
   phrase_small issuer r said short lower right =
@@ -409,9 +414,9 @@ module _ (texts : Texts) where
   reported_small providers r kinds.LateNotice short few = omega arith
   reported_small providers r kinds.Ack short few = omega arith
 
-  cert_of_receipt : (providers : List Provider) (issuer : Bytes) (r : Receipt) (stamp : Instant) (said : Said) → IsLawful providers
+  pub cert_of_receipt : (providers : List Provider) (issuer : Bytes) (r : Receipt) (stamp : Instant) (said : Said) → IsLawful providers
       → r.id.provider < length providers → length issuer ≤ 32 → AreSmall r.facts → IfSome r.recipient IsLowerAddress → Right said
-      → length (cert_text (receipt_certificate providers issuer r stamp (row_of r.kind) said)) ≤ 8000000
+      → length (cert_text (receipt_certificate providers issuer r stamp (row_of r.kind) said)) ≤ 4060000
   unfolding report_of
   cert_of_receipt providers issuer r stamp said lawful within short small lower right =
       certificate_small providers issuer r.id stamp r.facts (report_of providers r (row_of r.kind) said) lawful within short small
@@ -421,7 +426,7 @@ module _ (texts : Texts) where
   messages_small : (r : Receipt) (original : Bytes) → length original ≤ 31457280 → (found : Option Said)
       → IfSome found (λ (said : Said). MessageFits r said original)
   messages_small r original fits None = tt
-  messages_small r original fits (Some said) = message_small r said original fits
+  messages_small r original fits (Some said) = longer_message (message_in r said original) (message_small r said original fits)
 
   there_by : (seals : Seals) (kept : List Kept) (r : Receipt) (original : Bytes) (found : Option Said) (issuer : Issuer kept r.by) → IsRight found → Stands kept r
       → AreSmall r.facts → IfSome found (λ (said : Said). MessageFits r said original) → length issuer.issuer.provider.name ≤ 32

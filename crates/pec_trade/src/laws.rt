@@ -25,7 +25,7 @@ ghost use Rattle.pec_records.specs.Entry.{most_addresses};
 ghost use Rattle.pec_ledger.specs.Lookups.{addresses_of};
 ghost use Rattle.pec_ledger.specs.OfDirectory.{IsOf, facts_in, recipients_named};
 ghost use Rattle.pec_ledger.specs.Trade.{Receipt as Stated, SeenEnvelope, SeenReceipt};
-ghost use Rattle.pec_ledger.specs.TradeLaws.{CanBeComposed, IsSent, IsTrade};
+ghost use Rattle.pec_ledger.specs.TradeLaws.{CanBeComposed, IsSent, IsTrade, LettersCanBePut};
 ghost use Rattle.pec_trade.specs.Giving.{can_be_given};
 ghost use Rattle.pec_trade.specs.Texts.{given, refusal};
 ghost use Rattle.pec_trade.specs.TradeOf.{trade_of};
@@ -102,6 +102,10 @@ pub fn the_texts_are_a_trade<S: Sealer>()
         → provider < length kept → entry < 2 ^ 64 → length message ≤ 67_108_864
         → (text : Bytes) × (anomaly_text (S.seals sealer) kept provider entry moment message ≡ Some text)
         × ((trade_of kept (S.seals sealer)).anomaly_text provider entry moment message ≡ text) }
+    // Envelopes and receipts are short enough for a frame: a message has at most 30 MiB, and a brief form of it 40.
+    ensures put { (sealer : S) (kept : List Kept)
+        → IsLawful (providers_of kept) → Fits (S.seals sealer) (providers_of kept)
+        → LettersCanBePut (trade_of kept (S.seals sealer)) }
     // Whatever is seen as an envelope, also one that nobody composed, names the recipients of its original where it
     // names anybody.
     ensures names { (sealer : S) (kept : List Kept)

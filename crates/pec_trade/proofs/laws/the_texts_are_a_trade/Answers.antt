@@ -6,6 +6,7 @@ use Rattle.pec_trade.proofs.EnvelopeLemmas.{Envelopes, Values, composed as envel
 use Rattle.pec_trade.proofs.FactsLemmas.{Heads}
 use Rattle.pec_trade.proofs.NamedLemmas.{Lines}
 use Rattle.pec_trade.proofs.NoticeLemmas.{anomaly_there, notice}
+use Rattle.pec_trade.proofs.PuttingLemmas.{can_be_put}
 use Rattle.pec_trade.proofs.ReceiptLemmas.{Receipts, composed as receipt_composed}
 use Rattle.pec_trade.proofs.SeenLemmas.{Views}
 use Rattle.pec_trade.proofs.SentLemmas.{Sending, sent_as}
@@ -127,5 +128,12 @@ returns g c =
       anomalies = λ sealer kept lawful fits provider entry moment message within below small.
           anomaly_there (seals_of sealer) (parts sealer).notices kept lawful fits provider entry moment message
           (omega (arith, within, length-map kept (λ (one : Kept). one.provider))) below small;
+      put = λ sealer kept lawful fits.
+          can_be_put (seals_of sealer) (record {
+            envelopes = envelopes sealer;
+            receipts = receipts sealer;
+            told = c.an_address_is_told_exactly.ensures;
+            sending = sending;
+          }) kept lawful fits;
       names = λ sealer kept lawful fits. seen_names (seals_of sealer) (envelopes sealer) kept lawful fits;
     }

@@ -1,0 +1,14 @@
+pub mod ListLemmas
+pub mod PlanLemmas
+pub mod LawLemmas
+pub mod ArrivalLemmas
+pub mod RoundLemmas
+pub mod ProgressLemmas
+pub mod QuietLemmas
+pub mod AnswerLemmas
+pub mod FewLemmas
+pub mod TimeLemmas
+pub mod CountLemmas
+pub mod UnsettledLemmas
+pub mod FramedLemmas
+pub mod RestLemmas

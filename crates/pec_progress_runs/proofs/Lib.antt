@@ -1,0 +1,4 @@
+mod RunLemmas
+mod TurnLemmas
+mod PlaceLemmas
+mod ToldLemmas
