@@ -1,5 +1,5 @@
 -- The functions beside the relations of certificates agree with them.
-use Rattle.std.proofs.Common.{◌≡◌, ℕ, ◌+◌, ◌-◌, ◌*◌, ◌<◌, Bool, true, false, not, cond, nat_lt, eqb, List, [], ◌∷◌, length, map, Option, Some, None, Result, Ok, Err, refl, sym, ap, subst, ◌∙◌, inl, inr, arith, ℤ, pos, negsuc, ◌-ℤ◌, ◌*ℤ◌}
+use Rattle.std.proofs.Common.{◌≡◌, ℕ, ◌+◌, ◌-◌, ◌*◌, ◌<◌, ◌⊎◌, Bool, true, false, not, cond, nat_lt, eqb, List, [], ◌∷◌, length, map, Option, Some, None, Result, Ok, Err, refl, sym, ap, subst, ◌∙◌, inl, inr, arith, ℤ, pos, negsuc, ◌-ℤ◌, ◌*ℤ◌}
 use Rattle.std.proofs.lemmas.Bool.{false≢true, ltb-true, ltb-false}
 use Rattle.std.proofs.lemmas.Bool.Decides.{nat_tests}
 use Rattle.jiff_core.proofs.SignedLemmas.{signed_arith}
@@ -10,14 +10,16 @@ use Rattle.pec_types.specs.declared.moments.TheConstants.{END_OF_TIME}
 use Rattle.pec_grammar.specs.FirstFault.{FirstFault}
 use Rattle.pec_grammar.specs.Grammar.{ending}
 use Rattle.pec_grammar.proofs.Whole.{one_value}
-use Rattle.pec_cert.specs.Certificate.{Value, address, clock, addressee, lines_of, CanBeWritten, IsCert, values, IsGood, IsFaultOf, IsFirstFault, IsCertFault, before_part, addressees_from, before_recipients}
-use Rattle.pec_cert.specs.CertificateReading.{cert_text, is_lower, is_zone, is_day, is_time, moment_at, stamp_in, date_fault, fault_in, or_later, first_fault, recipient_from, cert_from, dated, unless_fault, said_by, cert_of}
+use Rattle.pec_cert.specs.Certificate.{Value, address, clock, addressee, lines_of, CanBeWritten, IsCert, values, IsGood, IsFaultOf, IsFirstFault, IsCertFault, addressees_from, before_recipients}
+use Rattle.pec_cert.specs.CertificateReading.{cert_text, date_fault, fault_in, or_later, first_fault, recipient_from, cert_from, dated, unless_fault, said_by, cert_of}
 use Rattle.pec_cert.specs.Checking.{AllGood, Checked, Says}
 use Rattle.pec_cert.specs.Clock.{shown_of}
+use Rattle.pec_cert.specs.Front.{IsWrongIn, wrong_in}
 use Rattle.pec_cert.specs.Lines.{text_of, IsShape}
 use Rattle.pec_cert.specs.LinesReading.{lines_at}
-use Rattle.pec_cert.specs.Shown.{IsZone, IsDay, IsTime, minutes_ahead, seconds_shown, AnswersShown}
+use Rattle.pec_cert.specs.Shown.{IsZone, IsDay, IsTime, minutes_ahead, seconds_shown, IsShown, AnswersShown, before_part}
 use Rattle.pec_cert.specs.Stamp.{Instant, IsStamp}
+use Rattle.pec_cert.specs.ValueTests.{is_lower, is_zone, is_day, is_time, moment_at, stamp_in}
 use Rattle.pec_cert.specs.declared.certificates.CertData.{CertData}
 use Rattle.pec_cert.specs.declared.dates.Part.{Part}
 use Rattle.pec_cert.specs.declared.dates.Part.TheVariants.{Zone, Day, Time}
@@ -28,10 +30,11 @@ use Rattle.pec_cert.specs.declared.lines.Lines.{Lines}
 use Rattle.pec_cert.specs.declared.stamps.ShownDay.{ShownDay}
 use Rattle.pec_cert.specs.declared.stamps.ShownTime.{ShownTime}
 use Rattle.pec_cert.specs.declared.stamps.Shown.{Shown}
-use Rattle.pec_cert.proofs.CalendarLemmas.{moment_from, moment_to}
+use Rattle.pec_cert.proofs.CalendarLemmas.{moment_from, moment_to, one_stamp}
 use Rattle.pec_cert.proofs.CertificateLemmas.{one_cert, clock_right, not_wrong, said_cert, said_fault, never_both, read_shape, read_fault}
 use Rattle.pec_cert.proofs.CheckLemmas.{says, split, lines_are}
 use Rattle.pec_cert.proofs.ClockLemmas.{shown_right, shown_only}
+use Rattle.pec_cert.proofs.FrontLaws.{wrong_found, wrong_is_found, wrong_kind}
 use Rattle.pec_cert.proofs.LowerAddressLemmas.{lower_yes, lower_no}
 use Rattle.pec_cert.proofs.WholeLemmas.{lines, lines_lawful}
 
@@ -131,6 +134,18 @@ one_part shown Time Zone is also = absurd (also is.0)
 one_part shown Time Day is also = elim also.1 [ inl none ↦ absurd (none is.1) | inr moment ↦ absurd (is.2 moment.1) ]
 one_part shown Time Time is also = refl
 
+stamp_only : (shown : Shown) (r : Result Instant Part) (stamp : Instant) → AnswersShown shown r → IsShown shown stamp → r ≡ Ok stamp
+stamp_only shown (Ok other) stamp answer is = ap (λ s. Ok s) (one_stamp shown other stamp answer is)
+stamp_only shown (Err part) stamp answer is = absurd (clock_right shown stamp part is answer)
+
+part_only : (shown : Shown) (r : Result Instant Part) (part : Part) → AnswersShown shown r → AnswersShown shown (Err part) → r ≡ Err part
+part_only shown (Ok stamp) part answer wrong = absurd (clock_right shown stamp part answer wrong)
+part_only shown (Err other) part answer wrong = ap (λ p. Err p) (one_part shown other part answer wrong)
+
+pub stamp_is : (shown : Shown) (r : Result Instant Part) → AnswersShown shown r → stamp_in shown ≡ r
+stamp_is shown (Ok stamp) is = stamp_only shown (stamp_in shown) stamp (stamp_told shown) is
+stamp_is shown (Err part) wrong = part_only shown (stamp_in shown) part (stamp_told shown) wrong
+
 -- The fault of a value, and of the first that has one.
 
 -- the law of addresses
@@ -215,13 +230,26 @@ module _ (text : List ℕ) (l : Lines) (shape : IsShape l text) where
       let here = (split (addressees_from (before_recipients l) l.recipients) _ good.1).1.0 in
       absurd (clock_right l.shown here.0 part here.1 is)
 
+-- what is told where the shape ends, by what is found in front of it
+stopped_told : AddressesTold → (text : List ℕ) (place : ℕ) → FirstFault IsShape text place → (found : Option CertFault) → wrong_in text ≡ found
+    → Told text (unless_fault found (Err (Syntax place)))
+stopped_told told text place first None none =
+    (first, λ f is. let both : None ≡ Some f = sym none ∙ wrong_is_found told stamp_told stamp_is text f is in let h : ⊥ = cc in h)
+stopped_told told text place first (Some f) some = by_kind f (wrong_found told stamp_told stamp_is text f some)
+  where
+    by_kind : (f : CertFault) → IsWrongIn text f → IsCertFault text f
+    by_kind (BadDate p) is = inr (first.other, is)
+    by_kind (BadAddress p) is = inr (first.other, is)
+    by_kind (Syntax p) is = absurd (wrong_kind told stamp_told stamp_is text (Syntax p) is)
+    by_kind NoMemory is = absurd (wrong_kind told stamp_told stamp_is text NoMemory is)
+
 text_told : AddressesTold → (text : List ℕ) → Told text (cert_of text)
 unfolding cert_of
 text_told told text = by_lines (ending (lines_at (record { rest = text; farthest = text }))) refl
   where
     by_lines : (r : Result Lines (List ℕ)) → ending (lines_at (record { rest = text; farthest = text })) ≡ r → Told text (said_by text r)
     by_lines (Ok l) e = lines_told text l (read_shape text l e) (first_fault (values l)) (stamp_in l.shown) (first_told told (values l)) (stamp_told l.shown)
-    by_lines (Err stop) e = (read_fault text stop e).1
+    by_lines (Err stop) e = stopped_told told text (length text - length stop) (read_fault text stop e).1 (wrong_in text) refl
 
 -- A text has one answer.
 
@@ -237,34 +265,51 @@ one_value_fault : (text : List ℕ) (l m : Lines) (f g : CertFault) → IsShape 
 one_value_fault text l m f g shape also first other =
     one_first_fault (values m) f g (subst (λ n. IsFirstFault (values n) f) (one_value lines lines_lawful l m text shape also) first) other
 
-pub one_fault : (text : List ℕ) (f g : CertFault) → IsCertFault text f → IsCertFault text g → f ≡ g
-one_fault text NoMemory g is also = absurd is
-one_fault text f NoMemory is also = absurd also
-one_fault text (Syntax p) (Syntax q) is also = ap Syntax (one_place IsShape text p q is also)
-one_fault text (Syntax p) (BadDate q) is also = absurd (is.other also.0 also.1)
-one_fault text (Syntax p) (BadAddress q) is also = absurd (is.other also.0 also.1)
-one_fault text (BadDate p) (Syntax q) is also = absurd (also.other is.0 is.1)
-one_fault text (BadAddress p) (Syntax q) is also = absurd (also.other is.0 is.1)
-one_fault text (BadDate p) (BadDate q) is also = one_value_fault text is.0 also.0 (BadDate p) (BadDate q) is.1 also.1 is.2 also.2
-one_fault text (BadDate p) (BadAddress q) is also = one_value_fault text is.0 also.0 (BadDate p) (BadAddress q) is.1 also.1 is.2 also.2
-one_fault text (BadAddress p) (BadDate q) is also = one_value_fault text is.0 also.0 (BadAddress p) (BadDate q) is.1 also.1 is.2 also.2
-one_fault text (BadAddress p) (BadAddress q) is also = one_value_fault text is.0 also.0 (BadAddress p) (BadAddress q) is.1 also.1 is.2 also.2
+-- the value that is wrong in a text is one, whether or not the text has the shape
+one_wrong : AddressesTold → (text : List ℕ) (f g : CertFault)
+    → ((l : Lines) × IsShape l text × IsFirstFault (values l) f) ⊎ (((l : Lines) → IsShape l text → ⊥) × IsWrongIn text f)
+    → ((l : Lines) × IsShape l text × IsFirstFault (values l) g) ⊎ (((l : Lines) → IsShape l text → ⊥) × IsWrongIn text g) → f ≡ g
+one_wrong told text f g is also = elim is [
+  | inl here ↦ elim also [ inl there ↦ one_value_fault text here.0 there.0 f g here.1 there.1 here.2 there.2 | inr none ↦ absurd (none.0 here.0 here.1) ]
+  | inr none ↦ elim also [
+    | inl there ↦ absurd (none.0 there.0 there.1)
+    | inr other ↦ let both : Some f ≡ Some g = sym (wrong_is_found told stamp_told stamp_is text f none.1) ∙ wrong_is_found told stamp_told stamp_is text g other.1 in cc
+  ]
+]
+
+-- a text without the shape whose values are right up to there has no wrong value
+not_wrong_too : (text : List ℕ) (place : ℕ) (f : CertFault) → FirstFault IsShape text place × ((g : CertFault) → IsWrongIn text g → ⊥)
+    → ((l : Lines) × IsShape l text × IsFirstFault (values l) f) ⊎ (((l : Lines) → IsShape l text → ⊥) × IsWrongIn text f) → ⊥
+not_wrong_too text place f is also = elim also [ inl there ↦ is.0.other there.0 there.1 | inr none ↦ is.1 f none.1 ]
+
+pub one_fault : AddressesTold → (text : List ℕ) (f g : CertFault) → IsCertFault text f → IsCertFault text g → f ≡ g
+one_fault told text NoMemory g is also = absurd is
+one_fault told text f NoMemory is also = absurd also
+one_fault told text (Syntax p) (Syntax q) is also = ap Syntax (one_place IsShape text p q is.0 also.0)
+one_fault told text (Syntax p) (BadDate q) is also = absurd (not_wrong_too text p (BadDate q) is also)
+one_fault told text (Syntax p) (BadAddress q) is also = absurd (not_wrong_too text p (BadAddress q) is also)
+one_fault told text (BadDate p) (Syntax q) is also = absurd (not_wrong_too text q (BadDate p) also is)
+one_fault told text (BadAddress p) (Syntax q) is also = absurd (not_wrong_too text q (BadAddress p) also is)
+one_fault told text (BadDate p) (BadDate q) is also = one_wrong told text (BadDate p) (BadDate q) is also
+one_fault told text (BadDate p) (BadAddress q) is also = one_wrong told text (BadDate p) (BadAddress q) is also
+one_fault told text (BadAddress p) (BadDate q) is also = one_wrong told text (BadAddress p) (BadDate q) is also
+one_fault told text (BadAddress p) (BadAddress q) is also = one_wrong told text (BadAddress p) (BadAddress q) is also
 
 module _ (text : List ℕ) where
   cert_only : (c : CertData) (r : Result CertData CertFault) → Told text r → IsCert c text → r ≡ Ok c
   cert_only c (Ok d) told is = ap Ok (one_cert d c text told is)
   cert_only c (Err fault) told is = absurd (never_both c text fault is told)
 
-  fault_only : (fault : CertFault) (r : Result CertData CertFault) → Told text r → IsCertFault text fault → r ≡ Err fault
-  fault_only fault (Ok c) told is = absurd (never_both c text fault told is)
-  fault_only fault (Err other) told is = ap Err (one_fault text other fault told is)
+  fault_only : AddressesTold → (fault : CertFault) (r : Result CertData CertFault) → Told text r → IsCertFault text fault → r ≡ Err fault
+  fault_only addresses fault (Ok c) told is = absurd (never_both c text fault told is)
+  fault_only addresses fault (Err other) told is = ap Err (one_fault addresses text other fault told is)
 
   pub cert_told_exactly : AddressesTold → TellsExactly (λ c. IsCert c text) (IsCertFault text) (cert_of text)
   cert_told_exactly addresses =
       let told = text_told addresses text in
       record {
         value = λ c. ((λ e. subst (λ r. Told text r) e told), (λ is. cert_only c (cert_of text) told is));
-        fault = λ fault. ((λ e. subst (λ r. Told text r) e told), (λ is. fault_only fault (cert_of text) told is));
+        fault = λ fault. ((λ e. subst (λ r. Told text r) e told), (λ is. fault_only addresses fault (cert_of text) told is));
       }
 
 -- What the code answers on the lines of a text is what the text tells.
@@ -280,6 +325,6 @@ module _ (text : List ℕ) (tells : TellsExactly (λ c. IsCert c text) (IsCertFa
   lines_exact l (Err (BadDate place)) shape checked = λ stays. fault_exact l (BadDate place) shape checked
   lines_exact l (Err (BadAddress place)) shape checked = λ stays. fault_exact l (BadAddress place) shape checked
 
-pub stop_exact : (text stop : List ℕ) → ending (lines_at (record { rest = text; farthest = text })) ≡ Err stop → cert_of text ≡ Err (Syntax (length text - length stop))
+pub stop_exact : (text stop : List ℕ) → ending (lines_at (record { rest = text; farthest = text })) ≡ Err stop → cert_of text ≡ unless_fault (wrong_in text) (Err (Syntax (length text - length stop)))
 unfolding cert_of
 stop_exact text stop e = ap (said_by text) e

@@ -129,8 +129,8 @@ module _ (text : List ℕ) (l : Lines) (shape : IsShape l text) where
   -- the fault of the first value that is wrong is the text's
   pub said_fault : (fault : CertFault) → IsFirstFault (values l) fault → IsCertFault text fault
   said_fault (Syntax place) first = absurd (no_syntax (values l) place first)
-  said_fault (BadDate place) first = (l, shape, first)
-  said_fault (BadAddress place) first = (l, shape, first)
+  said_fault (BadDate place) first = inl (l, shape, first)
+  said_fault (BadAddress place) first = inl (l, shape, first)
   said_fault NoMemory first = absurd (not_memory (values l) first)
 
 -- What is a certification text is never refused.
@@ -188,9 +188,15 @@ refused c text l fault is shape first =
     none_wrong (values (lines_of c is.shown)) fault (all_values_good c is.shown is.stamp is.written) (subst (λ x. IsFirstFault (values x) fault) same first)
 
 pub never_both : (c : CertData) (text : List ℕ) (fault : CertFault) → IsCert c text → IsCertFault text fault → ⊥
-never_both c text (Syntax place) is wrong = wrong.other (lines_of c is.shown) (shape_of c text is)
-never_both c text (BadDate place) is wrong = refused c text wrong.0 (BadDate place) is wrong.1 wrong.2
-never_both c text (BadAddress place) is wrong = refused c text wrong.0 (BadAddress place) is wrong.1 wrong.2
+never_both c text (Syntax place) is wrong = wrong.0.other (lines_of c is.shown) (shape_of c text is)
+never_both c text (BadDate place) is wrong = elim wrong [
+  | inl here ↦ refused c text here.0 (BadDate place) is here.1 here.2
+  | inr none ↦ none.0 (lines_of c is.shown) (shape_of c text is)
+]
+never_both c text (BadAddress place) is wrong = elim wrong [
+  | inl here ↦ refused c text here.0 (BadAddress place) is here.1 here.2
+  | inr none ↦ none.0 (lines_of c is.shown) (shape_of c text is)
+]
 never_both c text NoMemory is wrong = wrong
 
 -- What the lines of a text are, from reading them.

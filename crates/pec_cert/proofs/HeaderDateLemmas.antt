@@ -13,7 +13,7 @@ use Rattle.pec_grammar.proofs.Parts.{Lawful}
 use Rattle.pec_grammar.proofs.Sequences.{seen_lawful, same_lawful, both_lawful, led_lawful}
 use Rattle.pec_grammar.proofs.Openings.{choice_lawful}
 use Rattle.pec_grammar.proofs.Whole.{Tells, whole_told, whole_only}
-use Rattle.pec_cert.specs.CertificateReading.{stamp_in}
+use Rattle.pec_cert.specs.ValueTests.{stamp_in}
 use Rattle.pec_cert.specs.Clock.{shown_of}
 use Rattle.pec_cert.specs.HeaderDate.{weekday_name, month_name, weekday_of, named_day_text, date_text, header_date_text, IsHeaderDate, header_date_of, line_text, day_line_of}
 use Rattle.pec_cert.specs.HeaderDateReading.{weekdays, months, named_day_at, date_from, date_at, header_date_at, on_weekday, header_stamp_of}
@@ -24,9 +24,8 @@ use Rattle.pec_cert.specs.Stamp.{Instant, IsStamp}
 use Rattle.pec_cert.specs.declared.dates.Part.{Part}
 use Rattle.pec_cert.specs.declared.stamps.ShownDay.{ShownDay}
 use Rattle.pec_cert.specs.declared.stamps.Shown.{Shown}
-use Rattle.pec_cert.proofs.CalendarLemmas.{one_stamp}
-use Rattle.pec_cert.proofs.CertificateLaws.{stamp_told, one_part}
-use Rattle.pec_cert.proofs.CertificateLemmas.{shown_digits, clock_right}
+use Rattle.pec_cert.proofs.CertificateLaws.{stamp_is, stamp_told}
+use Rattle.pec_cert.proofs.CertificateLemmas.{shown_digits}
 use Rattle.pec_cert.proofs.ClockLemmas.{shown_right, shown_only}
 use Rattle.pec_cert.proofs.NumberLemmas.{two, two_lawful, four, four_lawful, zone, zone_lawful, time, time_lawful}
 use Rattle.pec_cert.proofs.Printable.{Printable, joined}
@@ -140,18 +139,6 @@ date_fits shown stamp is =
     ((digits.day, (has_month shown.day.month is.day.1.0 is.day.1.1, digits.year)), ((digits.hour, digits.minute, digits.second), (digits.hours, digits.minutes)))
 
 -- What is read.
-
-stamp_only : (shown : Shown) (r : Result Instant Part) (stamp : Instant) → AnswersShown shown r → IsShown shown stamp → r ≡ Ok stamp
-stamp_only shown (Ok other) stamp answer is = ap (λ s. Ok s) (one_stamp shown other stamp answer is)
-stamp_only shown (Err part) stamp answer is = absurd (clock_right shown stamp part is answer)
-
-part_only : (shown : Shown) (r : Result Instant Part) (part : Part) → AnswersShown shown r → AnswersShown shown (Err part) → r ≡ Err part
-part_only shown (Ok stamp) part answer wrong = absurd (clock_right shown stamp part answer wrong)
-part_only shown (Err other) part answer wrong = ap (λ p. Err p) (one_part shown other part answer wrong)
-
-pub stamp_is : (shown : Shown) (r : Result Instant Part) → AnswersShown shown r → stamp_in shown ≡ r
-stamp_is shown (Ok stamp) is = stamp_only shown (stamp_in shown) stamp (stamp_told shown) is
-stamp_is shown (Err part) wrong = part_only shown (stamp_in shown) part (stamp_told shown) wrong
 
 weekday_below : (day : ShownDay) → weekday_of day < 7
 weekday_below day = weekday_number_bound (days_from_civil (pos day.year) day.month day.day)

@@ -3,6 +3,8 @@ pub mod CertificateLaws
 pub mod CertificateLemmas
 pub mod CheckLemmas
 pub mod ClockLemmas
+pub mod FrontLaws
+pub mod FrontLemmas
 pub mod HeaderDateLemmas
 pub mod LowerAddressLemmas
 pub mod NumberLemmas

@@ -8,7 +8,7 @@ use Rattle.pec_types.specs.Address.{IsAddressFault, IsLowerAddress, IsReadAs}
 use Rattle.pec_types.specs.AddressReading.{address_of}
 use Rattle.pec_types.specs.Answers.{TellsExactly}
 use Rattle.pec_types.specs.declared.addresses.AddressFault.{AddressFault}
-use Rattle.pec_cert.specs.CertificateReading.{is_kept, is_lower}
+use Rattle.pec_cert.specs.ValueTests.{is_kept, is_lower}
 
 module _ (told : (text : List ℕ) → TellsExactly (IsReadAs text) (IsAddressFault text) (address_of text)) where
   pub lower_yes : (bytes : List ℕ) → is_lower bytes ≡ true → IsLowerAddress bytes

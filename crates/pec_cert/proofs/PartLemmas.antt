@@ -77,10 +77,10 @@ front_lawful =
 abbrev class : Grammar Bool
 class = choice class_word class_table
 
-class_lawful : Lawful class
+pub class_lawful : Lawful class
 class_lawful = choice_lawful class_word (codes "certificato", true) ((codes "esterno", false) ∷ []) (refl, (refl, tt)) refl
 
-has_class : (b : Bool) → HasValue class_table b
+pub has_class : (b : Bool) → HasValue class_table b
 has_class true = inl refl
 has_class false = inr (inl refl)
 

@@ -10,7 +10,8 @@ use Rattle.pec_grammar.specs.FirstFault.{FirstFault}
 use Rattle.pec_grammar.specs.Grammar.{optional_text, AllOfSome}
 use Rattle.pec_cert.specs.Markup.{opening, element}
 use Rattle.pec_cert.specs.Stamp.{Instant}
-use Rattle.pec_cert.specs.Shown.{zone_text, day_text, IsShown, AnswersShown}
+use Rattle.pec_cert.specs.Shown.{before_part, IsShown, AnswersShown}
+use Rattle.pec_cert.specs.Front.{IsWrongIn}
 use Rattle.pec_cert.specs.Lines.{front_text, addressee_opening, addressee_text, shown_text, wish_text, text_of, IsShape}
 use Rattle.pec_cert.specs.declared.certificates.CertData.{CertData}
 use Rattle.pec_cert.specs.declared.certificates.CertRecipient.{CertRecipient}
@@ -18,7 +19,6 @@ use Rattle.pec_cert.specs.declared.lines.Addressee.{Addressee}
 use Rattle.pec_cert.specs.declared.stamps.Shown.{Shown}
 use Rattle.pec_cert.specs.declared.lines.Lines.{Lines}
 use Rattle.pec_cert.specs.declared.dates.Part.{Part}
-use Rattle.pec_cert.specs.declared.dates.Part.TheVariants.{Zone, Day, Time}
 use Rattle.pec_cert.specs.declared.faults.CertFault.{CertFault}
 use Rattle.pec_cert.specs.declared.faults.CertFault.TheVariants.{Syntax, BadDate, BadAddress, NoMemory}
 
@@ -131,13 +131,6 @@ abbrev pub IsGood : Value → Type 0
 IsGood (address bytes) = IsLowerAddress bytes
 IsGood (clock shown) = (stamp : Instant) × IsShown shown stamp
 
--- the text before a part of what is shown
-abbrev pub before_part : Bytes → Shown → Part → Bytes
-before_part front shown Zone = front
-before_part front shown Day = front ++ (zone_text shown.zone ++ codes "\">\r\n<giorno>")
-before_part front shown Time =
-    front ++ (zone_text shown.zone ++ codes "\">\r\n<giorno>") ++ (day_text shown.day ++ codes "</giorno>\r\n<ora>")
-
 -- the fault of a value that is wrong
 abbrev pub IsFaultOf : Bytes → Value → CertFault → Type 0
 IsFaultOf front (address bytes) (BadAddress place) = (IsLowerAddress bytes → ⊥) × (place ≡ length front)
@@ -150,8 +143,12 @@ abbrev pub IsFirstFault : List (Bytes × Value) → CertFault → Type 0
 IsFirstFault [] fault = ⊥
 IsFirstFault (v ∷ vs) fault = IsFaultOf v.0 v.1 fault ⊎ (IsGood v.1 × IsFirstFault vs fault)
 
--- the text is no certification text, and this is its first fault
+-- The text is no certification text, and this is its first fault: where it has the shape of one, that of the first value
+-- that is wrong; and else that of the first wrong value that stands in it, or the place where the shape ends, where none
+-- is wrong in front of it.
 abbrev pub IsCertFault : Bytes → CertFault → Type 0
-IsCertFault text (Syntax place) = FirstFault IsShape text place
+IsCertFault text (Syntax place) = FirstFault IsShape text place × ((fault : CertFault) → IsWrongIn text fault → ⊥)
 IsCertFault text NoMemory = ⊥
-IsCertFault text fault = (l : Lines) × IsShape l text × IsFirstFault (values l) fault
+IsCertFault text fault =
+    ((l : Lines) × IsShape l text × IsFirstFault (values l) fault)
+    ⊎ (((l : Lines) → IsShape l text → ⊥) × IsWrongIn text fault)

@@ -5,7 +5,7 @@ use Rattle.std.specs.Prelude.{ℕ, ◌==◌, List, [], ◌∷◌, Option, None, 
 use Rattle.std.specs.Result.{result_ok}
 use Rattle.pec_types.specs.Bytes.{Bytes}
 use Rattle.pec_grammar.specs.Grammar.{Cursor, Read, both_at, seen_at, led_at, choice_at, ending}
-use Rattle.pec_cert.specs.CertificateReading.{stamp_in}
+use Rattle.pec_cert.specs.ValueTests.{stamp_in}
 use Rattle.pec_cert.specs.HeaderDate.{weekday_of}
 use Rattle.pec_cert.specs.LinesReading.{two_at, four_at, day_from, time_at, zone_at}
 use Rattle.pec_cert.specs.Stamp.{Instant}

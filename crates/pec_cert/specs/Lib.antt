@@ -2,6 +2,7 @@ pub mod Certificate
 pub mod CertificateReading
 pub mod Checking
 pub mod Clock
+pub mod Front
 pub mod HeaderDate
 pub mod HeaderDateReading
 pub mod Lines
@@ -9,4 +10,5 @@ pub mod LinesReading
 pub mod Markup
 pub mod Shown
 pub mod Stamp
+pub mod ValueTests
 pub mod Zone

@@ -32,6 +32,13 @@ abbrev pub time_text : ShownTime → Bytes
 time_text time =
     two_digits time.hour ++ (codes ":" ++ (two_digits time.minute ++ (codes ":" ++ two_digits time.second)))
 
+-- the text before a part of what is shown
+abbrev pub before_part : Bytes → Shown → Part → Bytes
+before_part front shown Zone = front
+before_part front shown Day = front ++ (zone_text shown.zone ++ codes "\">\r\n<giorno>")
+before_part front shown Time =
+    front ++ (zone_text shown.zone ++ codes "\">\r\n<giorno>") ++ (day_text shown.day ++ codes "</giorno>\r\n<ora>")
+
 -- the digits of a text
 pub record HasDigits (shown : Shown) : Type 0 where
   pub hours : shown.zone.hours < 100

@@ -14,6 +14,7 @@ mod shape;
 mod stamps;
 mod values;
 mod writing;
+mod wrong;
 mod zones;
 
 pub use certificates::{CertData, CertError, CertKind, CertRecipient};

@@ -2,10 +2,10 @@
 
 ghost use Rattle.std.specs.Prelude.{◌≡◌, ◌++◌, ◌≤◌, codes, length, map, take, OnOk, IfOk};
 ghost use Rattle.std.specs.List.{flat_map};
-ghost use Rattle.pec_cert.specs.Certificate.{before_part, before_recipients, before_shown, before_delivered, before_received};
+ghost use Rattle.pec_cert.specs.Certificate.{before_recipients, before_shown, before_delivered, before_received};
 ghost use Rattle.pec_cert.specs.Lines.{front_text, addressee_opening, addressee_text};
 ghost use Rattle.pec_cert.specs.Markup.{opening, element};
-ghost use Rattle.pec_cert.specs.Shown.{HasDigits};
+ghost use Rattle.pec_cert.specs.Shown.{HasDigits, before_part};
 
 use crate::dates::Part;
 use crate::lines::{Addressee, Lines};

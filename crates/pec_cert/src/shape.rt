@@ -104,7 +104,7 @@ fn closing(alloc: Global, at: Cursor<'_>) -> Result<(Closing, Cursor<'_>), ReadE
 
 /// Reads the first three lines.
 #[tactic(auto, unfolding(crate::specs::LinesReading::front_at))]
-fn front(at: Cursor<'_>) -> Result<((CertKind, CertError), Cursor<'_>), Stop<'_>>
+pub(crate) fn front(at: Cursor<'_>) -> Result<((CertKind, CertError), Cursor<'_>), Stop<'_>>
     ensures { Gives (λ x. (x.0, standing x.1)) result (front_at (standing at.entry)) }
 {
     let at = word(
@@ -182,7 +182,7 @@ fn addressee(alloc: Global, at: Cursor<'_>) -> Result<(Addressee, Cursor<'_>), R
     Ok((Addressee { certified, address }, at))
 }
 
-fn class(at: Cursor<'_>) -> Result<(bool, Cursor<'_>), Stop<'_>>
+pub(crate) fn class(at: Cursor<'_>) -> Result<(bool, Cursor<'_>), Stop<'_>>
     ensures { Gives (λ x. (x.0, standing x.1)) result (choice_at class_table (standing at.entry)) }
 {
     let table: [(&[u8], bool); 2] = [(b"certificato", true), (b"esterno", false)];
@@ -191,7 +191,7 @@ fn class(at: Cursor<'_>) -> Result<(bool, Cursor<'_>), Stop<'_>>
 }
 
 #[tactic(auto, unfolding(crate::specs::LinesReading::wish_at))]
-fn wish(at: Cursor<'_>) -> Result<(Wish, Cursor<'_>), Stop<'_>>
+pub(crate) fn wish(at: Cursor<'_>) -> Result<(Wish, Cursor<'_>), Stop<'_>>
     ensures { Gives (λ x. (x.0, standing x.1)) result (wish_at (standing at.entry)) }
 {
     let at = word(at, b"<ricevuta tipo=\"")?;

@@ -137,7 +137,7 @@ fn received_of(alloc: Global, lines: &Lines) -> Result<Items<Address>, CertFault
 }
 
 // The address that these bytes are, if they are one in lower case.
-fn lower_address(alloc: Global, bytes: &[u8]) -> Result<Option<Address>, NoMemory>
+pub(crate) fn lower_address(alloc: Global, bytes: &[u8]) -> Result<Option<Address>, NoMemory>
     ensures { IfOk result (λ found. MatchOption found (IsLowerAddress bytes.now → ⊥)
         (λ found. (found ≡ bytes.now) × IsLowerAddress bytes.now)) }
 {

@@ -165,6 +165,33 @@ static SHAPES: [Row; 1] = [
     (517, 0, " ", CertFault::Syntax(517)), // no blank before a tag's end
 ];
 
+// Two faults each: a value that is wrong, and a place where the shape ends.
+static BOTH: [Row; 6] = [
+    (121, 20, "ALICE@alfa.example<x", CertFault::BadAddress(121)), // the tag behind the address
+    (114, 8, "Xtente>A", CertFault::Syntax(114)), // and the one in front of it
+    (184, 19, "Anna@alfa.example<x", CertFault::BadAddress(184)),
+    (121, 18, "ALICE\x01", CertFault::Syntax(126)), // no address is whole
+    (
+        382,
+        52,
+        "32/01/2024</giorno>\r\n<ora>10:00:00</ora>\r\n</data>\r\nx",
+        CertFault::BadDate(382),
+    ),
+    (
+        382,
+        43,
+        "32/01/2024</giorno>\r\n<ora>10:00:00</ora>\r\nx",
+        CertFault::Syntax(424),
+    ), // no date is whole
+];
+
+#[test]
+fn of_two_faults_the_first_is_told(rt: HostRuntime) {
+    for row in &BOTH {
+        holds_at(&rt, has_fault(rt.alloc(), row), row.0 as u64, row.2);
+    }
+}
+
 #[test]
 fn a_text_of_another_shape_has_its_first_fault(rt: HostRuntime) {
     for row in &SHAPES {

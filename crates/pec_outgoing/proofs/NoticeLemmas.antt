@@ -11,7 +11,7 @@ use Rattle.pec_types.specs.Message.{Id}
 use Rattle.pec_types.specs.declared.messages.Cause.{Cause}
 use Rattle.pec_types.specs.declared.messages.Facts.{Facts}
 use Rattle.pec_types.specs.declared.receipts.Kind.TheVariants as kinds
-use Rattle.pec_cert.specs.CertificateReading.{is_kept, is_lower}
+use Rattle.pec_cert.specs.ValueTests.{is_kept, is_lower}
 use Rattle.pec_directory.specs.Directory.{Kept}
 use Rattle.pec_seal.specs.Seals.{Seals}
 use Rattle.pec_receipts.specs.declared.receipts.Receipt.{Receipt as Given}

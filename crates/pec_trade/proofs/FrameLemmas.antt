@@ -11,7 +11,7 @@ use Rattle.pec_types.specs.AddressReading.{address_of}
 use Rattle.pec_types.specs.Answers.{TellsExactly}
 use Rattle.pec_types.specs.Bytes.{Bytes, Path}
 use Rattle.pec_types.specs.declared.addresses.AddressFault.{AddressFault}
-use Rattle.pec_cert.specs.CertificateReading.{is_kept, is_lower}
+use Rattle.pec_cert.specs.ValueTests.{is_kept, is_lower}
 use Rattle.pec_frames.specs.Frames.{HasFrame, IsFrame, IsFrameFault, frame_text, message_at, path_line}
 use Rattle.pec_frames.specs.FramesReading.{framed_of}
 use Rattle.pec_frames.specs.declared.TheConstants.{FRAME_LIMIT, MOST_ADDRESSES}

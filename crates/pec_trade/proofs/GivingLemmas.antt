@@ -12,7 +12,7 @@ use Rattle.pec_types.specs.declared.messages.Cause.{Cause}
 use Rattle.pec_types.specs.declared.messages.Facts.{Facts}
 use Rattle.pec_types.specs.declared.receipts.Kind.{Kind}
 use Rattle.pec_types.specs.declared.receipts.Kind.TheVariants as kinds
-use Rattle.pec_cert.specs.CertificateReading.{is_lower}
+use Rattle.pec_cert.specs.ValueTests.{is_lower}
 use Rattle.pec_directory.specs.Directory.{Kept, Provider, home_of, is_certified, is_number, providers_of}
 use Rattle.pec_seal.specs.Seals.{Seals, line_text, sealed}
 use Rattle.pec_letter_parts.specs.Headings.{Heading}

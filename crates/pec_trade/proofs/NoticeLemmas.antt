@@ -20,7 +20,7 @@ use Rattle.pec_types.specs.declared.moments.TheConstants.{END_OF_TIME}
 use Rattle.pec_types.specs.declared.receipts.Kind.TheVariants as kinds
 use Rattle.pec_heads.specs.BoundedFacts.{IsShortText}
 use Rattle.pec_heads.specs.FactsOfHeads.{fresh, has_address, recipient, recipients_of}
-use Rattle.pec_cert.specs.CertificateReading.{is_lower}
+use Rattle.pec_cert.specs.ValueTests.{is_lower}
 use Rattle.pec_cert.specs.Zone.{stamp_of}
 use Rattle.pec_directory.specs.Directory.{first_of, Kept, Provider, home_of, is_account_of, providers_of}
 use Rattle.pec_directory.specs.Lawful.{IsLawful}

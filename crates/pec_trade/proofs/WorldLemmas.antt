@@ -10,7 +10,8 @@ use Rattle.pec_types.specs.Options.{◌>>=◌}
 use Rattle.pec_types.specs.declared.messages.Cause.{Cause}
 use Rattle.pec_types.specs.declared.messages.Facts.{Facts}
 use Rattle.pec_heads.specs.WrittenHeads.{with_head}
-use Rattle.pec_cert.specs.CertificateReading.{cert_text, is_lower}
+use Rattle.pec_cert.specs.CertificateReading.{cert_text}
+use Rattle.pec_cert.specs.ValueTests.{is_lower}
 use Rattle.pec_cert.specs.Stamp.{Instant}
 use Rattle.pec_cert.specs.Zone.{IsRule, stamp_of}
 use Rattle.pec_directory.specs.Canonical.{digest_of}

@@ -12,7 +12,7 @@ use Rattle.pec_types.specs.declared.disputes.LetterFault.{LetterFault}
 use Rattle.pec_types.specs.declared.messages.Cause.{Cause}
 use Rattle.pec_types.specs.declared.messages.Facts.{Facts}
 use Rattle.pec_types.specs.declared.receipts.Kind.TheVariants as kinds
-use Rattle.pec_cert.specs.CertificateReading.{is_lower}
+use Rattle.pec_cert.specs.ValueTests.{is_lower}
 use Rattle.pec_directory.specs.Directory.{Kept, Provider, home_of, is_number, providers_of}
 use Rattle.pec_seal.specs.Seals.{Seals}
 use Rattle.pec_frames.specs.Frames.{frame_text}
