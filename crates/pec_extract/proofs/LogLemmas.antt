@@ -1,6 +1,6 @@
 -- How the rows of a provider's log are written, one after another.
-use Rattle.std.proofs.Common.{◌≡◌, ℕ, ◌+◌, ◌<◌, ◌≤◌, zero, suc, Bool, true, false, not, List, [], ◌∷◌, ◌++◌, length, drop, Option, Some, None, Result, Ok, Err, refl, sym, ap, subst, ◌∙◌, arith, append_assoc, add-one, drop-cons}
-use Rattle.std.specs.Prelude.{IfErr, IfSome, OnErr, OnOk, slice_get}
+use Rattle.std.proofs.Common.{◌≡◌, ℕ, ◌+◌, ◌<◌, ◌≤◌, zero, suc, Bool, true, false, not, List, [], ◌∷◌, ◌++◌, length, drop, Option, Some, None, Result, Ok, Err, ◌⊎◌, inl, inr, refl, sym, ap, subst, ◌∙◌, arith, append_assoc, add-one, drop-cons}
+use Rattle.std.specs.Prelude.{IfErr, IfSome, IsTrue, OnErr, OnOk, slice_get}
 use Rattle.std.specs.List.{flat_map}
 use Rattle.std.specs.Option.{option_map, option_to_list}
 use Rattle.std.proofs.Math.ListN.{drop_of_length-le}
@@ -10,6 +10,7 @@ use Rattle.std.proofs.lemmas.Bool.{false≢true}
 use Rattle.std.proofs.lemmas.Option.{get_or_from_slice_get, same_Some, slice_get_within}
 use Rattle.pec_types.specs.Bytes.{Bytes}
 use Rattle.pec_types.specs.Message.{Id}
+use Rattle.pec_types.specs.Moments.{is_within}
 use Rattle.pec_types.specs.declared.messages.Facts.{Facts}
 use Rattle.pec_outside.specs.DiskModel.{Sight}
 use Rattle.pec_outside.specs.Flow.{followed_by, Wrote, WrotePart}
@@ -25,7 +26,7 @@ use Rattle.pec_chronicle.specs.Chronicle.{Stands}
 use Rattle.pec_provider.specs.Provider.{Desk, ProviderState, Runs, desk_of}
 use Rattle.pec_provider.specs.Telling.{facts_taken, own_facts}
 use Rattle.pec_extract.specs.LogRows.{facts_by, log_rows, original_in, row_with, row_within, rows_from, submits, told_by, told_with}
-use Rattle.pec_extract.specs.Reading.{IsLogChanged, OnChanged, Reads}
+use Rattle.pec_extract.specs.Reading.{IsLogChanged, LogTells, OnChanged, Reads, TellsOriginal}
 use Rattle.pec_extract.specs.Records.{Record, record_text, records_text}
 use Rattle.pec_extract.specs.Remembering.{AreTaken, Original, facts_kept, told_known}
 use Rattle.pec_extract.specs.declared.faults.ExtractFault.{ExtractFault}
@@ -191,10 +192,30 @@ module _ {D : Type 0} (trade : Trade) (providers : List Provider) (me from upto 
       (row_within trade providers me old.chronicle.entries from upto number submitted told)))
   front_so held after part = subst (WrotePart held after) same_rows part
 
+  -- and so is the original of which it tells
+  abbrev tells_of : ProviderState D → Entry → Type 0
+  tells_of provider one =
+      IsTrue (is_within from upto (moment_of one)) → TellsOriginal trade me provider.chronicle.entries one
+
+  pub original_so : tells_of mid entry → tells_of old told
+  original_so tells =
+      subst (λ (one : Entry). tells_of old one) told_is
+      (subst (λ (entries : List Entry). IsTrue (is_within from upto (moment_of entry)) → TellsOriginal trade me entries entry)
+      (ap (λ (desk : Desk). desk.journal) same) tells)
+
   pub submits_so : submits entry ≡ submits told
   submits_so = ap submits told_is
 
 -- ---- the loop
+
+before_or_here : (k n : ℕ) → k < n + 1 → (k < n) ⊎ (k ≡ n)
+before_or_here zero zero l = inr refl
+before_or_here zero (suc n) l = inl (omega arith)
+before_or_here (suc k) zero l = absurd (omega (arith, l))
+before_or_here (suc k) (suc n) l = elim (before_or_here k n (omega (arith, l))) [
+  | inl less ↦ inl (omega (arith, less))
+  | inr same ↦ inr (ap suc same)
+]
 
 there_at : {X : Type 0} (xs : List X) (n : ℕ) → n < length xs → (x : X) × (slice_get xs n ≡ Some x)
 there_at [] n l = absurd (omega (arith, l))
@@ -206,8 +227,8 @@ module _ {D : Type 0} (Tells : Type 0) (sight : D → Sight) (count : D → ℕ)
   abbrev all_rows : Bytes
   all_rows = records_text (log_rows trade providers me begun.chronicle.entries from upto)
 
-  -- The rows of the entries before this one are written, of which so many submit messages, what is remembered is what the
-  -- journal says, and nothing else has changed.
+  -- The rows of the entries before this one are written, of which so many submit messages, the originals of which they tell
+  -- are there, what is remembered is what the journal says, and nothing else has changed.
   pub record LogSoFar (number submitted : ℕ) (now : ProviderState D) (written : Option Bytes) (originals : List Original)
       : Type 0 where
     pub desk : desk_of now ≡ desk_of begun
@@ -217,6 +238,9 @@ module _ {D : Type 0} (Tells : Type 0) (sight : D → Sight) (count : D → ℕ)
     pub later : count begun.chronicle.disk ≤ count now.chronicle.disk
     pub few : submitted ≤ number
     pub taken : Tells → Stands sight begun.chronicle → AreTaken trade me begun.chronicle.entries originals
+    pub tells : Tells → Stands sight begun.chronicle → (k : ℕ) (entry : Entry) → k < number
+        → slice_get begun.chronicle.entries k ≡ Some entry → IsTrue (is_within from upto (moment_of entry))
+        → TellsOriginal trade me begun.chronicle.entries entry
     pub wrote : Tells → Stands sight begun.chronicle
         → Wrote held written all_rows (records_text (left trade providers me begun.chronicle.entries from upto number submitted))
 
@@ -231,6 +255,7 @@ module _ {D : Type 0} (Tells : Type 0) (sight : D → Sight) (count : D → ℕ)
     few = omega arith;
     taken = λ tells stands.
         subst (λ (found : List Original). AreTaken trade me begun.chronicle.entries found) (sym none) (λ id. tt);
+    tells = λ tells stands k entry l. absurd (omega (arith, l));
     wrote = λ tells stands. wrote_none held all_rows;
   }
 
@@ -266,8 +291,11 @@ module _ {D : Type 0} (Tells : Type 0) (sight : D → Sight) (count : D → ℕ)
           (row_within trade providers me now.chronicle.entries from upto number submitted entry))))
           → (Tells → Stands sight now.chronicle → (entry : Entry) → slice_get now.chronicle.entries number ≡ Some entry
           → more ≡ submits entry)
+          → (Tells → Stands sight now.chronicle → AreTaken trade me now.chronicle.entries originals
+          → (entry : Entry) → slice_get now.chronicle.entries number ≡ Some entry
+          → IsTrue (is_within from upto (moment_of entry)) → TellsOriginal trade me now.chronicle.entries entry)
           → LogSoFar (number + 1) (submitted + more) new after found
-      log_more found more reads owed runs carries later few l taken row submits_so =
+      log_more found more reads owed runs carries later few l taken row submits_so original =
           let there = there_at begun.chronicle.entries number l in
           let few_so_far = so_far.few in
           let later_so_far = so_far.later in
@@ -282,6 +310,13 @@ module _ {D : Type 0} (Tells : Type 0) (sight : D → Sight) (count : D → ℕ)
             taken = λ tells stands.
                 subst (λ (entries : List Entry). AreTaken trade me entries found) same_journal
                 (taken tells ((so_far.carries tells).stands stands) (taken_now tells stands));
+            tells = λ tells stands k entry l at within. elim (before_or_here k number l) [
+              | inl less ↦ so_far.tells tells stands k entry less at within
+              | inr same ↦ subst (λ (entries : List Entry). TellsOriginal trade me entries entry) same_journal
+                  (original tells ((so_far.carries tells).stands stands) (taken_now tells stands) entry
+                  (ap (λ (entries : List Entry). slice_get entries number) same_journal
+                  ∙ ap (slice_get begun.chronicle.entries) (sym same) ∙ at) within)
+            ];
             wrote = λ tells stands.
                 let stands_now = (so_far.carries tells).stands stands in
                 let at : slice_get now.chronicle.entries number ≡ Some there.0 =
@@ -323,6 +358,13 @@ module _ {D : Type 0} (Tells : Type 0) (sight : D → Sight) (count : D → ℕ)
     -- what its half is, is what it was
     pub log_half : half trade me now.chronicle.entries ≡ half trade me begun.chronicle.entries
     log_half = ap (half trade me) same_journal
+
+    -- the originals of which all rows tell are there
+    pub log_tells : length begun.chronicle.entries ≤ number → Tells → Stands sight begun.chronicle
+        → LogTells trade me from upto begun.chronicle.entries
+    log_tells l tells stands k entry at within =
+        let there = slice_get_within begun.chronicle.entries k entry at in
+        so_far.tells tells stands k entry (omega (arith, l, there)) at within
 
     -- all rows are written
     pub log_ends : length begun.chronicle.entries ≤ number → Tells → Stands sight begun.chronicle

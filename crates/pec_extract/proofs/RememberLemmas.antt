@@ -107,3 +107,11 @@ module _ {B : Type 0} (f : B → Facts) (found : Option B) (kept : Option Facts)
 pub so_some : (facts told : Option Facts) → facts ≡ told → IfSome facts (λ found. told ≡ Some found)
 so_some None told e = tt
 so_some (Some found) told e = sym e
+
+-- where something is remembered, the journal says it
+pub told_before : {B : Type 0} (f : B → Facts) (found : Option B) (kept : Option Facts) → option_map f found ≡ kept
+    → is_some found ≡ true → (told : Option Facts) → IfSome kept (λ facts. told ≡ Some facts)
+    → (facts : Facts) × (told ≡ Some facts)
+told_before f None kept looked some told is = absurd (cc some)
+told_before f (Some b) kept looked some told is =
+    (f b, subst (λ (k : Option Facts). IfSome k (λ facts. told ≡ Some facts)) (sym looked) is)

@@ -16,9 +16,9 @@ use Rattle.pec_chronicle.specs.Carrying.{CarriesOn, NothingMay}
 use Rattle.pec_chronicle.specs.Chronicle.{ChronicleState}
 use Rattle.pec_provider.specs.Provider.{Desk, ProviderState, Runs, desk_of}
 use Rattle.pec_extract.specs.LogRows.{both, log_rows, totals_of}
-use Rattle.pec_extract.specs.Logs.{AllRead, AllRun, Each, HasGrown, HasRisenIn, FaultLeaves, IsChangedFrom, IsChangedIn, IsRead, OneHasStopped, RunFrom, TotalsUpTo, logs_of, rows_of_all, totals_of_all}
+use Rattle.pec_extract.specs.Logs.{AllRead, AllRun, Each, HasGrown, HasRisenIn, FaultLeaves, IsChangedFrom, IsChangedIn, IsRead, LogsTell, LogsTellFrom, OneHasStopped, RunFrom, TotalsUpTo, logs_of, rows_of_all, totals_of_all}
 use Rattle.pec_provider.specs.Reading.{HasStopped}
-use Rattle.pec_extract.specs.Reading.{IsLogChanged, OnChanged, Reads}
+use Rattle.pec_extract.specs.Reading.{IsLogChanged, LogTells, OnChanged, Reads}
 use Rattle.pec_extract.specs.Records.{Record, header, record_text, records_text}
 use Rattle.pec_extract.specs.declared.faults.ExtractFault.{ExtractFault}
 use Rattle.pec_extract.specs.declared.faults.ExtractFault.TheVariants as faults
@@ -246,6 +246,20 @@ module _ {D : Type 0} (trade : Trade) (me : ℕ) (old : List (ProviderState D)) 
             number) (omega arith) is.2,
       )
 
+module _ {D : Type 0} (trade : Trade) (from upto me : ℕ) (old : List (ProviderState D)) (first : ProviderState D)
+    (others : List (ProviderState D)) (cut : old ≡ first ∷ others) where
+  -- the originals of which the rows of the first tell are there, and those of the others
+  pub tells_all : LogTells trade me from upto first.chronicle.entries
+      → LogsTellFrom trade from upto (me + 1) (logs_of others) → LogsTellFrom trade from upto me (logs_of old)
+  tells_all one more =
+      subst (λ (all : List (ProviderState D)). LogsTellFrom trade from upto me (logs_of all)) (sym cut) each
+    where
+      each : LogsTellFrom trade from upto me (logs_of (first ∷ others))
+      each zero within = subst (λ (n : ℕ). LogTells trade n from upto first.chronicle.entries) (omega arith) one
+      each (suc place) within =
+          subst (λ (n : ℕ). LogTells trade n from upto (journals_in (logs_of others) place)) (omega arith)
+          (more place (omega (arith, within)))
+
 -- what is so of each number is so of a fault
 pub on_changed : (So Then : ℕ → Type 0) → ((number : ℕ) → So number → Then number) → (fault : ExtractFault)
     → OnChanged So fault → OnChanged Then fault
@@ -398,3 +412,14 @@ pub changed_in : (trade : Trade) (journals : List (List Entry)) (number : ℕ) �
     → IsChangedIn trade journals number
 changed_in trade journals number is =
     (is.0, is.1, subst (λ (n : ℕ). IsLogChanged trade n (journals_in journals is.0) number) (omega arith) is.2)
+
+pub tells_in : (trade : Trade) (from upto : ℕ) (journals : List (List Entry)) → LogsTellFrom trade from upto 0 journals
+    → LogsTell trade from upto journals
+tells_in trade from upto journals tells me within =
+    subst (λ (n : ℕ). LogTells trade n from upto (journals_in journals me)) (omega arith) (tells me within)
+
+-- no provider is left
+pub tells_none : {D : Type 0} (trade : Trade) (from upto me : ℕ) (old : List (ProviderState D)) → length old ≡ 0
+    → LogsTellFrom trade from upto me (logs_of old)
+tells_none trade from upto me [] none place within = absurd (omega (arith, within))
+tells_none trade from upto me (first ∷ others) none place within = absurd (omega (arith, none))

@@ -15,7 +15,7 @@ use Rattle.pec_chronicle.specs.Chronicle.{Stands}
 use Rattle.pec_provider.specs.Provider.{Desk, ProviderState, Runs, stopped}
 use Rattle.pec_provider.specs.Summing.{most_pairs}
 use Rattle.pec_extract.specs.LogRows.{both, log_rows, no_totals, totals_of}
-use Rattle.pec_extract.specs.Reading.{IsLogChanged}
+use Rattle.pec_extract.specs.Reading.{IsLogChanged, LogTells}
 use Rattle.pec_extract.specs.Records.{Record, header, records_text, totals_record}
 use Rattle.pec_extract.specs.declared.faults.ExtractFault.{ExtractFault}
 use Rattle.pec_extract.specs.declared.faults.ExtractFault.TheVariants as faults
@@ -138,6 +138,16 @@ IsChangedFrom trade first journals number =
 abbrev pub IsChangedIn : Trade → List (List Entry) → ℕ → Type 0
 IsChangedIn trade journals number =
     (me : ℕ) × (me < length journals) × IsLogChanged trade me (journals_in journals me) number
+
+-- None is, of those by which rows of a range are told, in the journals of the providers from this one on.
+abbrev pub LogsTellFrom : Trade → (from upto : ℕ) → ℕ → List (List Entry) → Type 0
+LogsTellFrom trade from upto first journals =
+    (place : ℕ) → place < length journals → LogTells trade (first + place) from upto (journals_in journals place)
+
+-- None is in those of all.
+abbrev pub LogsTell : Trade → (from upto : ℕ) → List (List Entry) → Type 0
+LogsTell trade from upto journals =
+    (me : ℕ) → me < length journals → LogTells trade me from upto (journals_in journals me)
 
 -- None of the numbers is above those of so many providers.
 pub record TotalsUpTo (totals : Totals) (providers : ℕ) : Type 0 where

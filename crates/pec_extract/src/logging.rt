@@ -1,6 +1,7 @@
-ghost use Rattle.std.specs.Prelude.{◌≡◌, ◌<◌, ◌≤◌, Some, false, IfErr, IfOk, IfSome, IsErrOf, OnErr, OnOk, length, slice_get};
+ghost use Rattle.std.specs.Prelude.{◌≡◌, ◌<◌, ◌≤◌, Some, false, IfErr, IfOk, IfSome, IsErrOf, IsTrue, OnErr, OnOk, length, slice_get};
 ghost use Rattle.std.specs.Option.{option_and_then, option_map, option_to_list};
 ghost use Rattle.pec_ledger.specs.Lookups.{taken_of};
+ghost use Rattle.pec_types.specs.Moments.{is_within};
 ghost use Rattle.pec_outside.specs.Flow.{HasRisen, WrotePart, followed_by};
 ghost use Rattle.pec_directory.specs.Directory.{providers_of};
 ghost use Rattle.pec_records.specs.declared.entries.Entry.{Entry as SomeEntry};
@@ -13,7 +14,7 @@ ghost use Rattle.pec_provider.specs.Summing.{IsUpTo, most_pairs};
 ghost use Rattle.pec_provider.specs.Telling.{facts_taken, own_facts, recipients_taken};
 ghost use Rattle.pec_extract.specs.LogRows.{facts_by, log_rows, next_message, original_in, row_with, row_within, submits, told_by, told_with, totals_in, totals_of};
 ghost use Rattle.pec_extract.specs.Logs.{HasGrown, TotalsUpTo};
-ghost use Rattle.pec_extract.specs.Reading.{IsLogChanged, IsOfSink, OnChanged, Reads};
+ghost use Rattle.pec_extract.specs.Reading.{IsLogChanged, IsOfSink, LogTells, OnChanged, Reads, TellsOriginal};
 ghost use Rattle.pec_extract.specs.Records.{record_text, records_text};
 ghost use Rattle.pec_extract.specs.Remembering.{AreTaken, facts_kept, told_known};
 ghost use Rattle.pec_extract.specs.declared.faults.ExtractFault.TheVariants as faults;
@@ -37,7 +38,7 @@ use std::alloc::Global;
 
 /// Writes the rows of a provider's log: one for each of its entries whose moment is in the range, both ends of which
 /// belong to it, in their order. Each entry is read, and for the rows of a message that was taken its envelope, once.
-/// The answer is what has become of the pairs accepted in the range. After a fault a front of the rows was written:
+/// The answer is what has become of the pairs accepted in the range, and each such envelope was one of its message. After a fault a front of the rows was written:
 /// `DiskFault` where the disk failed, `WriteFault` where the sink did, and `Changed` with the number of an entry that
 /// isn't what was kept. After `DiskFault` and `Changed` the provider is down, and else it is as it was.
 pub fn write_provider<S: Sealer, D: Disk, W: Sink>(
@@ -63,6 +64,9 @@ pub fn write_provider<S: Sealer, D: Disk, W: Sink>(
     ensures totals { IfOk result (λ totals. totals ≡ totals_of (world_at house.now) house.now.me from upto
         (half (world_at house.now) house.now.me provider.old.chronicle.entries)) }
     ensures few { IfOk result (λ totals. TotalsUpTo totals 1) }
+    // For none of these rows the entry holds no envelope of its message.
+    ensures tells { D.tells → Stands D.sight provider.old.chronicle → OnOk result
+        (LogTells (world_at house.now) house.now.me from upto provider.old.chronicle.entries) }
     ensures changed { D.tells → Stands D.sight provider.old.chronicle → IfErr result (OnChanged
         (IsLogChanged (world_at house.now) house.now.me provider.old.chronicle.entries)) }
     ensures reads { Reads (desk_of provider.old) (desk_of provider.new) result }
@@ -145,6 +149,11 @@ fn write_entry<S: Sealer, D: Disk, W: Sink>(
         → AreTaken (world_at house.now) house.now.me provider.old.chronicle.entries remembered.new }
     ensures grown { HasGrown (W.held out.old) (W.held out.new) }
     ensures few { IfOk result (λ more. more ≤ 1) }
+    ensures original { D.tells → Stands D.sight provider.old.chronicle
+        → AreTaken (world_at house.now) house.now.me provider.old.chronicle.entries remembered.old
+        → (entry : SomeEntry) → slice_get provider.old.chronicle.entries number ≡ Some entry
+        → OnOk result (IsTrue (is_within from upto (moment_of entry))
+        → TellsOriginal (world_at house.now) house.now.me provider.old.chronicle.entries entry) }
     ensures changed { D.tells → Stands D.sight provider.old.chronicle → IfErr result (OnChanged
         (IsLogChanged (world_at house.now) house.now.me provider.old.chronicle.entries)) }
     ensures reads { Reads (desk_of provider.old) (desk_of provider.new) result }
@@ -194,6 +203,10 @@ fn write_within<S: Sealer, D: Disk, W: Sink>(
         → AreTaken (world_at house.now) house.now.me provider.old.chronicle.entries remembered.old
         → AreTaken (world_at house.now) house.now.me provider.old.chronicle.entries remembered.new }
     ensures grown { HasGrown (W.held out.old) (W.held out.new) }
+    ensures original { D.tells → Stands D.sight provider.old.chronicle
+        → AreTaken (world_at house.now) house.now.me provider.old.chronicle.entries remembered.old
+        → OnOk result (IsTrue (is_within from upto (moment_of entry.now))
+        → TellsOriginal (world_at house.now) house.now.me provider.old.chronicle.entries entry.now) }
     ensures changed { D.tells → Stands D.sight provider.old.chronicle → IfErr result (OnChanged
         (IsLogChanged (world_at house.now) house.now.me provider.old.chronicle.entries)) }
     ensures reads { Reads (desk_of provider.old) (desk_of provider.new) result }
@@ -245,6 +258,10 @@ fn write_row<S: Sealer, D: Disk, W: Sink>(
         → AreTaken (world_at house.now) house.now.me provider.old.chronicle.entries remembered.old
         → AreTaken (world_at house.now) house.now.me provider.old.chronicle.entries remembered.new }
     ensures grown { HasGrown (W.held out.old) (W.held out.new) }
+    ensures original { D.tells → Stands D.sight provider.old.chronicle
+        → AreTaken (world_at house.now) house.now.me provider.old.chronicle.entries remembered.old
+        → OnOk result (TellsOriginal (world_at house.now) house.now.me provider.old.chronicle.entries
+        entry.now) }
     ensures changed { D.tells → Stands D.sight provider.old.chronicle → IfErr result (OnChanged
         (IsLogChanged (world_at house.now) house.now.me provider.old.chronicle.entries)) }
     ensures reads { Reads (desk_of provider.old) (desk_of provider.new) result }
@@ -366,6 +383,10 @@ fn remember_for<S: Sealer, D: Disk>(
     ensures taken { D.tells → Stands D.sight provider.old.chronicle
         → AreTaken (world_at house.now) house.now.me provider.old.chronicle.entries remembered.old
         → AreTaken (world_at house.now) house.now.me provider.old.chronicle.entries remembered.new }
+    ensures original { D.tells → Stands D.sight provider.old.chronicle
+        → AreTaken (world_at house.now) house.now.me provider.old.chronicle.entries remembered.old
+        → OnOk result (TellsOriginal (world_at house.now) house.now.me provider.old.chronicle.entries
+        entry.now) }
     ensures changed { D.tells → Stands D.sight provider.old.chronicle → IfErr result (OnChanged
         (IsLogChanged (world_at house.now) house.now.me provider.old.chronicle.entries)) }
     ensures reads { Reads (desk_of provider.old) (desk_of provider.new) result }

@@ -7,7 +7,7 @@ ghost use Rattle.pec_chronicle.specs.Chronicle.{Stands};
 ghost use Rattle.pec_provider.specs.OfTrades.{world_at};
 ghost use Rattle.pec_provider.specs.Provider.{RunsIn, desk_of};
 ghost use Rattle.pec_provider.specs.Telling.{facts_taken};
-ghost use Rattle.pec_provider.specs.Reading.{Reads as ReadsDesk};
+ghost use Rattle.pec_provider.specs.Reading.{HasEnvelope, Reads as ReadsDesk};
 ghost use Rattle.pec_types.specs.declared.turns.ProviderFault.TheVariants as answers;
 ghost use Rattle.pec_extract.specs.Reading.{IsLogChanged, OnChanged, Reads};
 ghost use Rattle.pec_extract.specs.Remembering.{AreTaken, facts_kept};
@@ -16,14 +16,16 @@ ghost use Rattle.pec_extract.specs.declared.faults.ExtractFault.TheVariants as f
 use crate::faults::ExtractFault;
 use crate::remembered::Remembered;
 use pec_outside::Disk;
-use pec_provider::{House, Provider, a_house_is_a_trade, a_provider_stands_still};
+use pec_provider::{
+    House, Provider, a_house_is_a_trade, a_provider_stands_still, facts_are_told_of_an_envelope,
+};
 use pec_records::Entry;
 use pec_seal::Sealer;
 use pec_types::{Facts, MsgId, NoMemory, ProviderFault};
 use std::alloc::Global;
 
 /// Has the facts of the original of a message remembered, where it was taken here: they are read in its envelope,
-/// unless they were before.
+/// unless they were before. An entry that holds no envelope of it is told as changed.
 pub(crate) fn remember<D: Disk, S: Sealer>(
     alloc: Global,
     house: &House<'_, S>,
@@ -40,6 +42,9 @@ pub(crate) fn remember<D: Disk, S: Sealer>(
     ensures taken { D.tells → Stands D.sight provider.old.chronicle
         → AreTaken (world_at house.now) house.now.me provider.old.chronicle.entries remembered.old
         → AreTaken (world_at house.now) house.now.me provider.old.chronicle.entries remembered.new }
+    ensures original { D.tells → Stands D.sight provider.old.chronicle
+        → AreTaken (world_at house.now) house.now.me provider.old.chronicle.entries remembered.old
+        → OnOk result (HasEnvelope (world_at house.now) house.now.me provider.old.chronicle.entries id) }
     ensures changed { D.tells → Stands D.sight provider.old.chronicle → IfErr result (OnChanged
         (IsLogChanged (world_at house.now) house.now.me provider.old.chronicle.entries)) }
     ensures reads { Reads (desk_of provider.old) (desk_of provider.new) result }
@@ -51,6 +56,7 @@ pub(crate) fn remember<D: Disk, S: Sealer>(
     ensures no_write { IsErrOf result faults.WriteFault → ⊥ }
     ensures later { D.faults provider.old.chronicle.disk ≤ D.faults provider.new.chronicle.disk }
 {
+    facts_are_told_of_an_envelope();
     a_provider_stands_still(provider);
     if remembered.facts(id).is_some() {
         return Ok(());
@@ -85,6 +91,8 @@ fn read_taken<D: Disk, S: Sealer>(
     requires up { provider.old.chronicle.down ≡ false }
     ensures told { D.tells → Stands D.sight provider.old.chronicle → IfOk result (λ facts. facts
         ≡ facts_taken (world_at house.now) house.now.me provider.old.chronicle.entries id) }
+    ensures original { D.tells → Stands D.sight provider.old.chronicle
+        → OnOk result (HasEnvelope (world_at house.now) house.now.me provider.old.chronicle.entries id) }
     ensures changed { D.tells → Stands D.sight provider.old.chronicle → IfErr result (OnChanged
         (IsLogChanged (world_at house.now) house.now.me provider.old.chronicle.entries)) }
     ensures reads { Reads (desk_of provider.old) (desk_of provider.new) result }
@@ -96,6 +104,8 @@ fn read_taken<D: Disk, S: Sealer>(
     ensures no_write { IsErrOf result faults.WriteFault → ⊥ }
     ensures later { D.faults provider.old.chronicle.disk ≤ D.faults provider.new.chronicle.disk }
 {
+    a_house_is_a_trade(house);
+    facts_are_told_of_an_envelope();
     match provider.facts_taken(alloc, house, id) {
         Ok(facts) => Ok(Some(facts)),
         Err(ProviderFault::NoItem) => Ok(None),

@@ -15,6 +15,8 @@ ghost use Rattle.pec_extract.specs.Logs.{
   HasRisenIn,
   IsChangedFrom,
   IsChangedIn,
+  LogsTell,
+  LogsTellFrom,
   OnRead,
   RunFrom,
   TotalsUpTo,
@@ -59,6 +61,9 @@ pub fn write_log<S: Sealer, D: Disk, W: Sink>(
     ensures ok { D.tells → AllStand D.sight providers.old → OnOk result (W.held out.new ≡ followed_by (W.held out.old)
         (log_text (trade_of directory.now (S.seals sealer.now)) (providers_of directory.now) from upto
         (logs_of providers.old))) }
+    // For none of its rows the entry holds no envelope of its message.
+    ensures tells { D.tells → AllStand D.sight providers.old → OnOk result
+        (LogsTell (trade_of directory.now (S.seals sealer.now)) from upto (logs_of providers.old)) }
     ensures err { D.tells → AllStand D.sight providers.old → OnErr result (WrotePart (W.held out.old) (W.held out.new)
         (log_text (trade_of directory.now (S.seals sealer.now)) (providers_of directory.now) from upto
         (logs_of providers.old))) }
@@ -105,6 +110,8 @@ fn write_each<S: Sealer, D: Disk, W: Sink>(
     ensures front { D.tells → AllStand D.sight providers.old → OnErr result (WrotePart (W.held out.old) (W.held out.new)
         (records_text (rows_of_all (trade_of directory.now (S.seals sealer.now)) (providers_of directory.now) from upto me
         (logs_of providers.old)))) }
+    ensures tells { D.tells → AllStand D.sight providers.old → OnOk result
+        (LogsTellFrom (trade_of directory.now (S.seals sealer.now)) from upto me (logs_of providers.old)) }
     ensures grown { HasGrown (W.held out.old) (W.held out.new) }
     ensures totals { IfOk result (λ totals. totals ≡ totals_of_all (trade_of directory.now (S.seals sealer.now))
         from upto me (logs_of providers.old)) }

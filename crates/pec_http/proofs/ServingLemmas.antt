@@ -12,7 +12,7 @@ use Rattle.pec_http.specs.Asking.{Asks, Demands, Question, Submit, See, asked_wi
 use Rattle.pec_http.specs.Input.{IsInput, StopsBody, StopsHead, TakesMore}
 use Rattle.pec_http.specs.Desks.{Answers, IsLookFault}
 use Rattle.pec_http.specs.Replies.{Reply, fault_reply, memory_reply, reply_text, shown_reply, stop_reply}
-use Rattle.pec_http.specs.Serving.{HasRested, IsAnswerOrLack, MayShow, Sends, Serves, Shows, StopsFor, Submits, kind_of}
+use Rattle.pec_http.specs.Serving.{HasRested, HasRestedOver, IsAnswerOrLack, MayShow, RestsBehind, Sends, Serves, Shows, StopsFor, Submits, kind_of}
 use Rattle.pec_http.specs.declared.serving.Served.{Served}
 use Rattle.pec_http.specs.declared.serving.Served.TheVariants.{Answered, ReadFault, WriteFault}
 use Rattle.pec_http.specs.declared.statuses.Kind.TheVariants.{Message}
@@ -110,10 +110,16 @@ seen_so answers desk address look known seen said answer is may looks shown =
     shown_so answer (λ reply. Shows answers desk address look desk reply) (shown_reply (kind_of look) (seen_as seen said))
     (record { said = seen_as seen said; may_say = subst P (sym is) may; cause = λ e. absurd (no_disk seen said looks e); answer = refl }) (subst Q (sym is) shown)
 
--- what failed for such a look left the desk as it is
-pub rested_so : {Desk : Type 0} (answers : Answers Desk) (desk : Desk) (answer : Result Written Stop) → IfErr answer (λ stop. HasRested answers desk desk)
-rested_so answers desk (Ok written) = record {}
-rested_so answers desk (Err stop) = inl refl
+rests_behind : {Desk : Type 0} (answers : Answers Desk) (desk : Desk) (address : Bytes) (look : Look) → RestsBehind answers desk address look desk
+rests_behind answers desk address looks.Book = refl
+rests_behind answers desk address looks.Items = refl
+rests_behind answers desk address (looks.Item place) = inl refl
+
+-- what failed for a look at which no item was shown left the desk as it is
+pub rested_so : {Desk : Type 0} (answers : Answers Desk) (desk : Desk) (address : Bytes) (look : Look) (answer : Result Written Stop)
+    → IfErr answer (λ stop. RestsBehind answers desk address look desk)
+rested_so answers desk address _ (Ok written) = record {}
+rested_so answers desk address look (Err stop) = rests_behind answers desk address look
 
 -- an item is shown
 pub item_shown : {Desk : Type 0} (answers : Answers Desk) (before after : Desk) (address : Bytes) (place : ℕ) (bytes : Bytes) (written : Written)
@@ -191,6 +197,33 @@ look_answered answers left left_then came end before after address look written 
       is_written = shown.2;
     }
 
+-- where the desk is as it was, whatever was asked
+pub rests_over : {Desk X : Type 0} (answers : Answers Desk) (left : Option Bytes) (before after : Desk) (answer : Result X Stop) → after ≡ before
+    → IfErr answer (λ stop. HasRestedOver answers left before after)
+rests_over answers left before after (Ok written) same = record {}
+rests_over answers left before after (Err stop) same = let rest = rest_of left in (rest.0, rest.1, inl same)
+
+rested_by : {Desk : Type 0} (answers : Answers Desk) (before after : Desk) (input address : Bytes) (look : Look) → Asks (answers.pass before) input (Ok (See address look))
+    → RestsBehind answers before address look after → HasRested answers before input after
+rested_by answers before after input address looks.Book asks same = inl same
+rested_by answers before after input address looks.Items asks same = inl same
+rested_by answers before after input address (looks.Item place) asks (inl same) = inl same
+rested_by answers before after input address (looks.Item place) asks (inr shown) =
+    inr (record { address = address; place = place; asks = asks; bytes = shown.0; shown = shown.1 })
+
+-- an account looks, and memory runs out
+pub look_rested : {Desk X : Type 0} (answers : Answers Desk) (left left_then : Option Bytes) (came : Bytes) (end : ℕ) (before after : Desk) (address : Bytes) (look : Look)
+    (answer : Result X Stop) → HeadCame left left_then came end → Demands (answers.pass before) (take end came) (Ok (demands.Look address look))
+    → RestsBehind answers before address look after → IfErr answer (λ stop. HasRestedOver answers left before after)
+look_rested answers left left_then came end before after address _ (Ok written) head asking rests = record {}
+look_rested answers left left_then came end before after address look (Err stop) head asking rests =
+    let rest = rest_of left_then in
+    let input : Bytes = came ++ rest.0 in (
+      input,
+      input_known left left_then came rest.0 head.taken rest.1,
+      rested_by answers before after input address look (asks_so (answers.pass before) came rest.0 end (Ok (demands.Look address look)) (head.cut rest.0) head.within asking) rests,
+    )
+
 -- an account submits, and is answered
 pub submission_answered : {Desk : Type 0} (answers : Answers Desk) (left left_then left_last : Option Bytes) (came all : Bytes) (end length_ : ℕ) (before after : Desk)
     (address : Bytes) (path path_said : Path) (message : Bytes) (written : Written) → HeadCame left left_then came end
@@ -229,23 +262,22 @@ demands_so pass text text_is asked asked_is e f h =
 -- ---- calls
 
 -- a request that isn't put to the desk leaves it as it is, and so does want of memory, but that an item may have been read
-pub record RestsAt {Desk : Type 0} (answers : Answers Desk) (before after : Desk) (stop : Stop) : Type 0 where
+pub record RestsAt {Desk : Type 0} (answers : Answers Desk) (left : Option Bytes) (before after : Desk) (stop : Stop) : Type 0 where
   pub same : stop ≢ stops.NoMemory → after ≡ before
-  pub rested : HasRested answers before after
+  pub rested : HasRestedOver answers left before after
 
-refused : {Desk : Type 0} (answers : Answers Desk) (left : Option Bytes) (before after : Desk) (stop : Stop) (reply : Reply) → RestsAt answers before after stop → stop ≢ stops.NoMemory
+refused : {Desk : Type 0} (answers : Answers Desk) (left : Option Bytes) (before after : Desk) (stop : Stop) (reply : Reply) → RestsAt answers left before after stop → stop ≢ stops.NoMemory
     → stop ≢ stops.ReadFault → StopsFor (answers.pass before) left stop → reply ≡ stop_reply stop
     → (input : Bytes) × IsInput left input × IsAnswerOrLack answers before input after reply
 refused answers left before after stop reply rests no_lack no_read stopped is =
     let why = stopped no_lack no_read in
     (why.0, why.1, inl (record { asked = Err stop; asks = why.2; answered = record { same = rests.same no_lack; is = is } }))
 
-lacking : {Desk : Type 0} (answers : Answers Desk) (left : Option Bytes) (before after : Desk) (reply : Reply) → HasRested answers before after → reply ≡ memory_reply
+lacking : {Desk : Type 0} (answers : Answers Desk) (left : Option Bytes) (before after : Desk) (reply : Reply) → HasRestedOver answers left before after → reply ≡ memory_reply
     → (input : Bytes) × IsInput left input × IsAnswerOrLack answers before input after reply
-lacking answers left before after reply rested is =
-    let rest = rest_of left in (rest.0, rest.1, inr (is, rested))
+lacking answers left before after reply rested is = (rested.0, rested.1, inr (is, rested.2))
 
-stop_answered : {Desk : Type 0} (answers : Answers Desk) (left : Option Bytes) (before after : Desk) (stop : Stop) (reply : Reply) → RestsAt answers before after stop
+stop_answered : {Desk : Type 0} (answers : Answers Desk) (left : Option Bytes) (before after : Desk) (stop : Stop) (reply : Reply) → RestsAt answers left before after stop
     → stop ≢ stops.ReadFault → StopsFor (answers.pass before) left stop → reply ≡ stop_reply stop
     → (input : Bytes) × IsInput left input × IsAnswerOrLack answers before input after reply
 stop_answered answers left before after stops.NoMemory reply rests no_read stopped is = lacking answers left before after reply rests.rested is
@@ -262,7 +294,7 @@ stop_answered answers left before after stops.NoPath reply rests no_read stopped
 stop_answered answers left before after stops.TooLarge reply rests no_read stopped is = refused answers left before after stops.TooLarge reply rests (λ e. absurd cc) no_read stopped is
 stop_answered answers left before after stops.CutBody reply rests no_read stopped is = refused answers left before after stops.CutBody reply rests (λ e. absurd cc) no_read stopped is
 
-stop_or_lack : {Desk : Type 0} (answers : Answers Desk) (left : Option Bytes) (before after : Desk) (stop : Stop) (reply : Reply) → RestsAt answers before after stop
+stop_or_lack : {Desk : Type 0} (answers : Answers Desk) (left : Option Bytes) (before after : Desk) (stop : Stop) (reply : Reply) → RestsAt answers left before after stop
     → stop ≢ stops.ReadFault → StopsFor (answers.pass before) left stop → (reply ≡ stop_reply stop) ⊎ (reply ≡ memory_reply)
     → (input : Bytes) × IsInput left input × IsAnswerOrLack answers before input after reply
 stop_or_lack answers left before after stop reply rests no_read stopped (inl is) = stop_answered answers left before after stop reply rests no_read stopped is
@@ -277,7 +309,7 @@ replies answers left held before after held_then ReadFault reply answer sends = 
 
 -- a request that isn't put to the desk is served; reading it left what the connection held
 pub stop_served : {Desk : Type 0} (answers : Answers Desk) (left held held_read : Option Bytes) (before after : Desk) (stop : Stop) (held_then : Option Bytes) (served : Served)
-    → held_read ≡ held → RestsAt answers before after stop → stop ≢ stops.ReadFault → StopsFor (answers.pass before) left stop
+    → held_read ≡ held → RestsAt answers left before after stop → stop ≢ stops.ReadFault → StopsFor (answers.pass before) left stop
     → ((reply : Reply) × ((reply ≡ stop_reply stop) ⊎ (reply ≡ memory_reply)) × Sends held_read held_then served reply.status (reply_text reply))
     → Serves answers left held before after held_then served
 stop_served answers left held held_read before after stop held_then served kept rests no_read stopped answered =

@@ -32,12 +32,13 @@ abbrev pub IsWithinLimit : Pass → Type 0
 IsWithinLimit (passes.Admitted limit) = limit ≤ 31457280
 IsWithinLimit _ = ⊤
 
--- The refusals of a submission.
+-- The refusals of a submission, for which nothing is read from a disk.
 abbrev pub IsSubmitFault : ProviderFault → Type 0
 IsSubmitFault faults.NoAccount = ⊥
 IsSubmitFault faults.NoItem = ⊥
 IsSubmitFault faults.OldJournal = ⊥
 IsSubmitFault faults.NoNeed = ⊥
+IsSubmitFault (faults.Changed entry) = ⊥
 IsSubmitFault _ = ⊤
 
 -- Those of a book and of a mailbox.

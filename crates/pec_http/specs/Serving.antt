@@ -71,22 +71,34 @@ pub record IsAnswer {Desk : Type 0} (answers : Answers Desk) (before : Desk) (in
   pub asks : Asks (answers.pass before) input asked
   pub answered : IsAnswered answers before asked after reply
 
--- The desk showed an item, and no more.
-pub record HasRead {Desk : Type 0} (answers : Answers Desk) (before after : Desk) : Type 0 where
+-- An account looked at an item by these bytes, which the desk showed, and it did no more.
+pub record HasRead {Desk : Type 0} (answers : Answers Desk) (before : Desk) (input : Bytes) (after : Desk) : Type 0 where
   pub address : Bytes
   pub place : ℕ
+  pub asks : Asks (answers.pass before) input (Ok (See address (looks.Item place)))
   pub bytes : Bytes
   pub shown : answers.item before address place (Ok bytes) after
 
--- Where memory ran out: the desk wasn't asked to do anything, or it showed an item for which there was no room in an
--- answer.
-abbrev pub HasRested : {Desk : Type 0} → Answers Desk → Desk → Desk → Type 0
-HasRested answers before after = (after ≡ before) ⊎ HasRead answers before after
+-- Where memory ran out: the desk wasn't asked to do anything, or it showed the item that was asked for, for which there was
+-- no room in an answer.
+abbrev pub HasRested : {Desk : Type 0} → Answers Desk → Desk → Bytes → Desk → Type 0
+HasRested answers before input after = (after ≡ before) ⊎ HasRead answers before input after
+
+-- So it is, by how the account looked.
+abbrev pub RestsBehind : {Desk : Type 0} → Answers Desk → Desk → Bytes → Look → Desk → Type 0
+RestsBehind answers before address looks.Book after = after ≡ before
+RestsBehind answers before address looks.Items after = after ≡ before
+RestsBehind answers before address (looks.Item place) after =
+    (after ≡ before) ⊎ ((bytes : Bytes) × answers.item before address place (Ok bytes) after)
+
+-- So it is over a connection that had this to come.
+abbrev pub HasRestedOver : {Desk : Type 0} → Answers Desk → Option Bytes → Desk → Desk → Type 0
+HasRestedOver answers left before after = (input : Bytes) × IsInput left input × HasRested answers before input after
 
 -- The same as `IsAnswer`, where memory may have run out before anything was handed in, refused or answered.
 abbrev pub IsAnswerOrLack : {Desk : Type 0} → Answers Desk → Desk → Bytes → Desk → Reply → Type 0
 IsAnswerOrLack answers before input after reply =
-    IsAnswer answers before input after reply ⊎ ((reply ≡ memory_reply) × HasRested answers before after)
+    IsAnswer answers before input after reply ⊎ ((reply ≡ memory_reply) × HasRested answers before input after)
 
 -- Over a connection with this to come a request isn't put to the desk, for this reason. Want of memory and a fault of the
 -- connection say nothing of it.

@@ -1,7 +1,7 @@
 ghost use Rattle.std.specs.Prelude.{◌≡◌, ◌≢◌, ◌<◌, ◌≤◌, true, length, IfOk, IfErr, IsErrOf};
 ghost use Rattle.pec_outside.specs.Flow.{HasRisen};
 ghost use Rattle.pec_http.specs.Replies.{Reply as ReplyShown};
-ghost use Rattle.pec_http.specs.Serving.{HasRested, Shows, StopsFor, Submits};
+ghost use Rattle.pec_http.specs.Serving.{HasRestedOver, RestsBehind, Shows, StopsFor, Submits};
 ghost use Rattle.pec_http.specs.Writing.{Exchanges, IsReply};
 ghost use Rattle.pec_http.specs.declared.demands.Look.TheVariants as looks;
 ghost use Rattle.pec_http.specs.declared.stops.Stop.TheVariants as stops;
@@ -26,7 +26,7 @@ pub(crate) fn exchange<S: Source, K: Desk>(
     ensures ok { IfOk result (Exchanges K.answers (S.left connection.old) desk.old desk.new) }
     ensures stop { IfErr result (StopsFor (K.answers.pass desk.old) (S.left connection.old)) }
     ensures same { IfErr result (λ stop. stop ≢ stops.NoMemory → desk.new ≡ desk.old) }
-    ensures rested { IfErr result (λ stop. HasRested K.answers desk.old desk.new) }
+    ensures rested { IfErr result (λ stop. HasRestedOver K.answers (S.left connection.old) desk.old desk.new) }
     ensures kept { S.held connection.new ≡ S.held connection.old }
     ensures later { S.faults connection.old ≤ S.faults connection.new }
     ensures cause { IsErrOf result stops.ReadFault → HasRisen (S.faults connection.old) (S.faults connection.new) }
@@ -54,7 +54,7 @@ fn see<K: Desk>(alloc: Global, desk: &mut K, address: &Address, look: Look) -> R
     ensures ok { IfOk result (λ reply. (answer : ReplyShown)
         × (Shows K.answers desk.old address.now look desk.new answer) × IsReply reply answer) }
     ensures err { IfErr result (λ stop. stop ≡ stops.NoMemory) }
-    ensures rested { IfErr result (λ stop. HasRested K.answers desk.old desk.new) }
+    ensures rested { IfErr result (λ stop. RestsBehind K.answers desk.old address.now look desk.new) }
 {
     match look {
         Look::Book => shown(alloc, Kind::Plain, desk.book(alloc, address)),
@@ -78,7 +78,7 @@ fn see_item<K: Desk>(
     ensures ok { IfOk result (λ reply. (answer : ReplyShown)
         × (Shows K.answers desk.old address.now (looks.Item place) desk.new answer) × IsReply reply answer) }
     ensures err { IfErr result (λ stop. stop ≡ stops.NoMemory) }
-    ensures rested { IfErr result (λ stop. HasRested K.answers desk.old desk.new) }
+    ensures rested { IfErr result (λ stop. RestsBehind K.answers desk.old address.now (looks.Item place) desk.new) }
 {
     let mut line = Vec::with_capacity(alloc, BODY_ROOM)?;
     let mut text = Vec::with_capacity(alloc, HEAD_ROOM + BODY_ROOM)?;

@@ -167,17 +167,19 @@ module _ (Stood : Type 0) (trade : Trade) (me now : ℕ) (screens : List Pattern
 
   -- ---- memory ran out
 
-  -- a place of a turn, as a front of it
-  pub front_of : (joins : Joins trade me now) (new : Desk) (after : Waiting) (frames : ℕ) → new ≡ desk
-      → after ≡ without_first frames left
-      → IsFront trade me now (site_of begun screens waiting) (site_of new screens after)
-  front_of joins new after frames same gone =
-      let looks = far.sees (kept_looks trade me screens) in
+  -- so much of a turn was done, by what screens found
+  front_by : (joins : Joins trade me now) (new : Desk) (after : Waiting) (frames : ℕ) → new ≡ desk
+      → after ≡ without_first frames left → (looks : Looks) (rest : List Step)
+      → plan_at Stood trade me now screens looks begun waiting ≡ far.steps ++ rest
+      → (looks ≡ kept_looks trade me screens) ⊎ (Stood → ⊥)
+      → IsFront Stood trade me now (site_of begun screens waiting) (site_of new screens after)
+  front_by joins new after frames same gone looks rest planned kept =
       let front : take (length far.steps) (plan_at Stood trade me now screens looks begun waiting) ≡ far.steps =
-      ap (λ (l : List Step). take (length far.steps) l) (far.whole (kept_looks trade me screens))
-      ∙ take_at far.steps (honest_plan Stood trade me now screens desk left) (length far.steps) refl in
+      ap (λ (l : List Step). take (length far.steps) l) planned
+      ∙ take_at far.steps rest (length far.steps) refl in
       record {
         looks = looks;
+        kept = kept;
         steps = length far.steps;
         frames = length far.steps + frames;
         is = site_same new.journal (begun.journal ++ entries_of
@@ -191,6 +193,17 @@ module _ (Stood : Type 0) (trade : Trade) (me now : ℕ) (screens : List Pattern
             (gone ∙ ap (λ (w : Waiting). without_first frames w) far.gone
             ∙ joins (length far.steps) frames waiting);
       }
+
+  -- a place of a turn, as a front of it
+  pub front_of : (joins : Joins trade me now) (new : Desk) (after : Waiting) (frames : ℕ) → new ≡ desk
+      → after ≡ without_first frames left
+      → IsFront Stood trade me now (site_of begun screens waiting) (site_of new screens after)
+  front_of joins new after frames same gone = elim far.honest [
+    | inl here ↦ front_by joins new after frames same gone (kept_looks trade me screens)
+        (honest_plan Stood trade me now screens desk left) here (inl refl)
+    | inr other ↦ front_by joins new after frames same gone (far.sees (kept_looks trade me screens))
+        (honest_plan Stood trade me now screens desk left) (far.whole (kept_looks trade me screens)) (inr other)
+  ]
 
   -- ---- a step wasn't done
 

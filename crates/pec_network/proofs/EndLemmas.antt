@@ -238,14 +238,14 @@ module _ (Stood : Type 0) (trade : Trade) (me now : ℕ) (screens : List Pattern
 module _ (Stood : Type 0) (trade : Trade) (me now : ℕ) (screens : List Patterns) (begun : Desk) (waiting : Waiting)
     (joins : Joins trade me now) where
   short_so : (new : Desk) (left : Waiting) → IsAtWork trade me now begun
-      → IsFront trade me now (site_of begun screens waiting) (site_of new screens left)
-      → StopsShort trade me now (site_of begun screens waiting) (site_of new screens left)
+      → IsFront Stood trade me now (site_of begun screens waiting) (site_of new screens left)
+      → StopsShort Stood trade me now (site_of begun screens waiting) (site_of new screens left)
   short_so new left works front = record { up = works.up; in_time = works.in_time; front = front }
 
   pub short_whole : (desk new : Desk) (left : Waiting) (events : List Event) (r : Result Taken NoMemory)
       → IsAtWork trade me now begun
       → Leads Stood trade me now screens begun waiting [] desk left events → OnErr r (new ≡ desk)
-      → OnErr r (StopsShort trade me now (site_of begun screens waiting) (site_of new screens left))
+      → OnErr r (StopsShort Stood trade me now (site_of begun screens waiting) (site_of new screens left))
   short_whole desk new left events (Ok taken) works far same = tt
   short_whole desk new left events (Err none) works far same =
       short_so new left works
@@ -256,7 +256,7 @@ module _ (Stood : Type 0) (trade : Trade) (me now : ℕ) (screens : List Pattern
       → IsAtWork trade me now begun
       → Leads Stood trade me now screens begun waiting [] last waits events
       → Breaks Stood trade me now screens last waits faults.NoMemory new left
-      → StopsShort trade me now (site_of begun screens waiting) (site_of new screens left)
+      → StopsShort Stood trade me now (site_of begun screens waiting) (site_of new screens left)
   short_breaks last new waits left events works far breaks =
       short_so new left works
       (front_of Stood trade me now screens begun last waiting waits events far joins new left breaks.1 breaks.0 breaks.2)
@@ -264,7 +264,7 @@ module _ (Stood : Type 0) (trade : Trade) (me now : ℕ) (screens : List Pattern
   pub short_early : (new : Desk) (left : Waiting) (events : List Event) (fault : ProviderFault)
       (r : Result Taken NoMemory) → IsAtWork trade me now begun
       → Ends Stood trade me now screens begun waiting [] fault new left events → OnErr r (fault ≡ faults.NoMemory)
-      → OnErr r (StopsShort trade me now (site_of begun screens waiting) (site_of new screens left))
+      → OnErr r (StopsShort Stood trade me now (site_of begun screens waiting) (site_of new screens left))
   short_early new left events fault (Ok taken) works ends memory = tt
   short_early new left events fault (Err none) works ends memory =
       short_breaks ends.last new ends.waits left events works ends.leads

@@ -1,7 +1,7 @@
 -- The turns of a round, provider by provider: what is true when the workers of those before a number are done
 -- (`WorkedSoFar`, and `TurnsSoFar` where each told its turn), and that one turn more keeps it.
 use Rattle.std.proofs.Common.{◌≡◌, ℕ, zero, suc, ◌+◌, ◌-◌, ◌<◌, ◌≤◌, List, [], ◌∷◌, ◌++◌, length, map}
-use Rattle.std.proofs.Common.{get_or, set, refl, ap, sym, subst, ◌∙◌, inl, inr, arith, Some, Ok, Err}
+use Rattle.std.proofs.Common.{get_or, set, refl, ap, sym, subst, ◌∙◌, ◌⊎◌, inl, inr, arith, Some, Ok, Err}
 use Rattle.std.specs.Prelude.{All, OnErr, Result}
 use Rattle.std.proofs.lemmas.Bool.{cases_eq, cases_lt}
 use Rattle.std.proofs.lemmas.List.{get_or-map, get_or-set_other, get_or-set_same}
@@ -31,7 +31,7 @@ use Rattle.pec_screen.specs.Verdicts.{Patterns}
 use Rattle.pec_seal.specs.Seals.{Seals}
 use Rattle.pec_network.specs.Carrying.{AllCarryOn, AllStand, NoneFalls}
 use Rattle.pec_network.specs.Network.{IsOfDirectory, sites_of}
-use Rattle.pec_network.specs.Rounds.{AreRooms, BlamesDisks, FramesAreGenuine, IsRound, KeepsSound, StopsWithin}
+use Rattle.pec_network.specs.Rounds.{AreRooms, BlamesDisks, FramesAreGenuine, IsRound, KeepsSound, StopsOver}
 use Rattle.pec_network.proofs.ProviderLemmas.{whole_at, whole_with}
 use Rattle.pec_network.proofs.RoundLemmas.{AllHad, HadTurn, HasFront, HaveFronts, front_of, front_short, fronts_more}
 use Rattle.pec_network.proofs.RoundLemmas.{get_push, had_more, is_round, no_turn_yet, stops_within}
@@ -229,15 +229,29 @@ module _ {D : Type 0} (Tells : Type 0) (sight : D → Sight) (count : D → ℕ)
         later = later_more later;
       }
 
-      -- memory ran out in it
-      pub short_front : StopsShort trade number moment (site_of (desk_of was) boxes links) behind
-          → HasFront AllStood trade moment before number behind
-      short_front short = front_short AllStood trade moment before number (site_of (desk_of was) boxes links) behind stood short
-
       -- what was kept of it stood
       was_stands : AllStand sight old → Stands sight was.chronicle
       was_stands all = subst (λ (p : ProviderState D). Stands sight p.chronicle) (was_old was)
           (all number was (let e = many in omega arith))
+
+      -- memory ran out in it
+      pub short_front : StopsShort (Tells × Stands sight was.chronicle) trade number moment (site_of (desk_of was) boxes links) behind
+          → HasFront AllStood trade moment before number behind
+      short_front short = front_short AllStood trade moment before number (site_of (desk_of was) boxes links) behind stood (record {
+        up = short.up;
+        in_time = short.in_time;
+        front = record {
+          looks = short.front.looks;
+          kept = unless_all short.front.kept;
+          steps = short.front.steps;
+          frames = short.front.frames;
+          is = short.front.is;
+        };
+      })
+        where
+          unless_all : {P : Type 0} → P ⊎ ((Tells × Stands sight was.chronicle) → ⊥) → P ⊎ (AllStood → ⊥)
+          unless_all (inl p) = inl p
+          unless_all (inr other) = inr (λ all. other (all.0, was_stands all.1))
 
       -- ---- it is told
 
@@ -342,7 +356,7 @@ module _ {D : Type 0} (Tells : Type 0) (sight : D → Sight) (count : D → ℕ)
     -- ---- behind the round, whatever waits
 
     pub stops_behind : (number : ℕ) (now : List (ProviderState D)) (waiting arrivals : List Waiting)
-        → WorkedSoFar number now waiting → StopsWithin trade moment before (sites_of now screens arrivals)
+        → WorkedSoFar number now waiting → StopsOver AllStood trade moment before (sites_of now screens arrivals)
     stops_behind number now waiting arrivals so_far =
         stops_within AllStood trade moment before (sites_of now screens arrivals)
         (sites_count now screens arrivals ∙ so_far.whole.count ∙ sym whole_before.count ∙ sym (sites_count old screens waited))
@@ -351,6 +365,7 @@ module _ {D : Type 0} (Tells : Type 0) (sight : D → Sight) (count : D → ℕ)
         let same = desk_stays now screens arrivals waiting k in record {
           cut = front.cut;
           instead = front.instead;
+          kept = front.kept;
           journal = λ l. same.0 ∙ front.journal l;
           interrupted = λ l. same.1 ∙ front.interrupted l;
         })

@@ -22,9 +22,9 @@ use Rattle.pec_plays.specs.Scripts.{put_instead}
 use Rattle.pec_plays.specs.Turns.{Cut, Fails, Full, Other, Sees, Stops, Turned, Unread, Whole, frames_in, last_of, steps_of, turned}
 use Rattle.pec_posts.specs.Arrivals.{Waiting, waiting_from}
 use Rattle.pec_network.specs.Turning.{StopsShort, Took, told_of, turn_of}
-use Rattle.pec_network.specs.Rounds.{IsRound, KeepsSound, NoneChanged, StopsWithin, luck_of_cuts}
+use Rattle.pec_network.specs.Rounds.{IsRound, KeepsSound, NoneChanged, StopsOver, StopsWithin, luck_of_cuts}
 use Rattle.pec_network.proofs.DeliveryLemmas.{after_is, after_length, out_at, outs_length, turn_in, turn_is, turns_length}
-use Rattle.pec_network.proofs.TurnLemmas.{puts_none, short_cut, stops_first, stops_short, without_other, without_same}
+use Rattle.pec_network.proofs.TurnLemmas.{kept_without, puts_none, short_cut, stops_first, without_other, without_same}
 
 -- ---- lists
 
@@ -235,6 +235,7 @@ module _ (Stood : Type 0) (trade : Trade) (moment : ℕ) (old : List Site) where
   pub record HasFront (number : ℕ) (site : Site) : Type 0 where
     pub cut : Cut
     pub instead : put_instead cut ≡ None
+    pub kept : Stood → IsOfKept cut
     pub journal : number < length old
         → site.journal ≡ (turned trade number moment (rooms_of old number) cut (site_at old number)).site.journal
     pub interrupted : number < length old
@@ -247,13 +248,14 @@ module _ (Stood : Type 0) (trade : Trade) (moment : ℕ) (old : List Site) where
   pub no_turn_yet : HaveFronts old
   no_turn_yet = λ number.
       let first = stops_first trade number moment (rooms_of old number) (site_at old number) in
-      record { cut = Stops 0; instead = refl; journal = λ l. first.0; interrupted = λ l. first.1 }
+      record { cut = Stops 0; instead = refl; kept = λ stood. tt; journal = λ l. first.0; interrupted = λ l. first.1 }
 
   pub front_of : (number : ℕ) (new : Site) (turn : Turn) (out : List (List Bytes)) → HadTurn number new turn out
       → HasFront number new
   front_of number new turn out had = record {
     cut = without_other trade number moment had.took.cut;
     instead = puts_none trade number moment had.took.cut;
+    kept = λ stood. kept_without trade number moment had.took.cut (had.took.kept stood);
     journal = λ l. sym (ap (λ (s : Site). s.journal)
         (without_same trade number moment (rooms_of old number) had.took.cut (site_at old number))
         ∙ ap (λ (t : Turned). t.site.journal) had.took.is);
@@ -262,17 +264,18 @@ module _ (Stood : Type 0) (trade : Trade) (moment : ℕ) (old : List Site) where
         ∙ ap (λ (t : Turned). t.site.interrupted) had.took.is);
   }
 
-  pub front_short : (number : ℕ) (was new : Site) → was ≡ site_at old number → StopsShort trade number moment was new
+  pub front_short : (number : ℕ) (was new : Site) → was ≡ site_at old number → StopsShort Stood trade number moment was new
       → HasFront number new
   front_short number was new here short =
-      let at : StopsShort trade number moment (site_at old number) new = subst
-      (λ (s : Site). StopsShort trade number moment s new) here short in
-      let so = stops_short trade number moment (rooms_of old number) (site_at old number) new at in
+      let at : StopsShort Stood trade number moment (site_at old number) new = subst
+      (λ (s : Site). StopsShort Stood trade number moment s new) here short in
+      let so = short_cut trade number moment Stood (rooms_of old number) (site_at old number) new at in
       record {
-        cut = short_cut trade number moment (site_at old number) new at;
-        instead = refl;
-        journal = λ l. so.0;
-        interrupted = λ l. so.1;
+        cut = so.cut;
+        instead = so.instead;
+        kept = so.kept;
+        journal = λ l. so.journal;
+        interrupted = λ l. so.interrupted;
       }
 
   pub fronts_more : (new : List Site) (number : ℕ) (site : Site) → number < length new → HaveFronts new
@@ -287,7 +290,7 @@ module _ (Stood : Type 0) (trade : Trade) (moment : ℕ) (old : List Site) where
             (so_far k)
       ]
 
-  pub stops_within : (new : List Site) → length new ≡ length old → HaveFronts new → StopsWithin trade moment old new
+  pub stops_within : (new : List Site) → length new ≡ length old → HaveFronts new → StopsOver Stood trade moment old new
   unfolding played rounded turns_of
   stops_within new same fronts =
       let luck : Luck = luck_of_cuts (λ number. (fronts number).cut) in
@@ -295,7 +298,8 @@ module _ (Stood : Type 0) (trade : Trade) (moment : ℕ) (old : List Site) where
       (turns_from trade moment old luck.cuts 0 old) in
       let many = after_length trade moment luck.cuts old in
       let past : (k : ℕ) → length old ≤ k → site_at new k ≡ site_at after k = λ k l.
-      get_or_past new k empty_site (omega arith) ∙ sym (get_or_past after k empty_site (omega arith)) in record {
+      get_or_past new k empty_site (omega arith) ∙ sym (get_or_past after k empty_site (omega arith)) in
+      let stops : StopsWithin trade moment old new = record {
         luck = luck;
         instead = λ k. (fronts k).instead;
         journals = λ k.
@@ -310,7 +314,8 @@ module _ (Stood : Type 0) (trade : Trade) (moment : ℕ) (old : List Site) where
                   (after_is trade moment luck.cuts old k l))
               | inr l ↦ ap (λ (s : Site). s.interrupted) (past k l)
             ];
-      }
+      } in
+      (stops, λ stood k. (fronts k).kept stood)
 
 -- ---- frames that wait
 

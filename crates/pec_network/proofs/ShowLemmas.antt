@@ -1,8 +1,9 @@
 -- What an account is shown, by what its provider answers.
-use Rattle.std.proofs.Common.{◌≡◌, ℕ, ◌<◌, Bool, true, false, Global, List, [], Vec, get_or, set, length, refl, ap, sym}
+use Rattle.std.proofs.Common.{◌≡◌, ℕ, ◌<◌, Bool, true, false, Global, List, [], Vec, get_or, set, length, refl, ap, subst, sym}
 use Rattle.std.proofs.Common.{◌∙◌, ◌⊎◌, inl, inr, Option, Some, None, Result, Ok, Err}
 use Rattle.std.specs.Prelude.{IfErr, IfOk, IsErrOf, IsSome, OnOk, if◌then◌else◌, not, slice_get}
 use Rattle.std.proofs.lemmas.Bool.{cases_eq}
+use Rattle.std.proofs.lemmas.List.{append-nil}
 use Rattle.std.proofs.lemmas.Option.{same_Some}
 use Rattle.std.proofs.lemmas.Result.{IfErr-at_err}
 use Rattle.std.specs.Option.{option_and_then}
@@ -11,19 +12,24 @@ use Rattle.pec_types.specs.declared.turns.ProviderFault.{ProviderFault}
 use Rattle.pec_types.specs.declared.turns.ProviderFault.TheVariants as faults
 use Rattle.pec_types.specs.declared.mailboxes.ItemLine.{ItemLine}
 use Rattle.pec_types.specs.declared.messages.BookLine.{BookLine}
+use Rattle.pec_directory.specs.Directory.{Kept}
+use Rattle.pec_records.specs.declared.entries.Entry.{Entry}
+use Rattle.pec_seal.specs.Seals.{Seals}
 use Rattle.pec_ledger.specs.Books.{archive_lines, book, mailbox_lines}
 use Rattle.pec_ledger.specs.Half.{Half, Posted}
 use Rattle.pec_ledger.specs.Items.{item_text}
 use Rattle.pec_ledger.specs.Lookups.{archive, mailbox}
 use Rattle.pec_ledger.specs.Network.{Site, site_at}
+use Rattle.pec_ledger.specs.OfDirectory.{IsOf}
 use Rattle.pec_ledger.specs.Steps.{half}
 use Rattle.pec_ledger.specs.Trade.{Trade}
 use Rattle.pec_plays.specs.Commands.{Answer, Book, Items, Lines, Luck, Mailbox, Played, Refuses, Show, Shown, Vault, VaultShow}
 use Rattle.pec_plays.specs.Commands.{Vaults, account_home, answers, asked, played, shown, shown_bytes, stopped_site, with_site}
 use Rattle.pec_screen.specs.Verdicts.{Patterns}
+use Rattle.pec_stock.specs.Stock.{IsOwn}
 use Rattle.pec_posts.specs.Arrivals.{Waiting, waiting_for}
 use Rattle.pec_provider.specs.Playing.{IsUnasked, IsUnshown, text_at}
-use Rattle.pec_provider.specs.Provider.{Desk, ProviderState, desk_of, site_of, stopped}
+use Rattle.pec_provider.specs.Provider.{Desk, ProviderState, Runs, desk_of, site_of, stopped}
 use Rattle.pec_provider.specs.Reading.{OnChanged, Reads}
 use Rattle.pec_network.specs.Network.{sites_of}
 use Rattle.pec_network.specs.Playing.{IsReadSo, IsShown, luck_of_read}
@@ -35,6 +41,14 @@ use Rattle.pec_network.proofs.SiteLemmas.{provider_changes, site_again}
 pub none_told : {X : Type 0} (Is : ℕ → Type 0) (r : Result X ProviderFault) → IfErr r (OnChanged Is)
     → ((number : ℕ) → Is number → ⊥) → (number : ℕ) → IsErrOf r (faults.Changed number) → ⊥
 none_told Is r changed none number is = none number (IfErr-at_err (OnChanged Is) is changed)
+
+-- the entries of a provider are its own
+pub own_so : {D : Type 0} {kept : List Kept} {seals : Seals} (trade : Trade) (me : ℕ) (was : ProviderState D)
+    → Runs kept seals me was → IsOf kept trade → IsOwn trade me was.chronicle.entries
+own_so trade me was runs of =
+    subst (λ (n : ℕ). IsOwn trade n was.chronicle.entries) runs.is
+    (subst (λ (l : List Entry). IsOwn trade was.shelf.me l) (append-nil was.chronicle.entries)
+    (runs.agree.own trade of false))
 
 module _ {X : Type 0} (trade : Trade) (sites : List Site) (address : Bytes) (show : ℕ → Half → Played) (tells : X → Answer) where
   abbrev asks : Option ℕ → Played

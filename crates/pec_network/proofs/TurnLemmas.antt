@@ -1,6 +1,6 @@
 -- What one turn of a round leaves, however it is cut.
 use Rattle.std.proofs.Common.{◌≡◌, ℕ, zero, suc, ◌+◌, ◌-◌, ◌<◌, ◌≤◌, Bool, true, false, List, [], ◌∷◌, ◌++◌, length}
-use Rattle.std.proofs.Common.{get_or, take, refl, ap, sym, subst, ◌∙◌, arith, Option, None}
+use Rattle.std.proofs.Common.{get_or, take, refl, ap, sym, subst, ◌∙◌, ◌⊎◌, inl, inr, arith, Option, None}
 use Rattle.std.specs.Prelude.{nat_lt, if◌then◌else◌}
 use Rattle.std.proofs.lemmas.Bool.{le-ltb}
 use Rattle.std.proofs.lemmas.List.{append-nil, length-drop}
@@ -16,6 +16,7 @@ use Rattle.pec_plays.specs.Frames.{due_frames}
 use Rattle.pec_plays.specs.Steps.{Step}
 use Rattle.pec_screen.specs.Verdicts.{Patterns}
 use Rattle.pec_plays.specs.Decisions.{Looks}
+use Rattle.pec_plays.specs.Possible.{IsOfKept}
 use Rattle.pec_plays.specs.Scripts.{put_instead}
 use Rattle.pec_plays.specs.Turns.{Cut, Fails, Full, Other, Sees, Stops, Turned, Unread, Whole, behind, cut_turn, entries_of}
 use Rattle.pec_plays.specs.Turns.{events_of, frames_in, last_of, looks_by, not_begun, owed_of, plan, puts_from, steps_of}
@@ -243,22 +244,70 @@ module _ (trade : Trade) (me now : ℕ) where
       (Stops 0) site
       (λ fault. (refl, refl)) (sym (append-nil site.journal), refl)
 
-  -- a turn that had begun is cut where memory ran out, with what was found in it
-  abbrev pub short_cut : (old new : Site) → StopsShort trade me now old new → Cut
-  short_cut old new short = Sees short.front.looks (Stops short.front.steps)
+  pub kept_without : (cut : Cut) → IsOfKept cut → IsOfKept (without_other cut)
+  kept_without Whole kept = kept
+  kept_without (Fails number fault) kept = kept
+  kept_without (Full number) kept = kept
+  kept_without (Stops number) kept = kept
+  kept_without (Unread number fault) kept = kept
+  kept_without (Other out) kept = tt
+  kept_without (Sees looks cut) kept = absurd kept
 
-  pub stops_short : (rooms : ℕ → ℕ) (old new : Site) (short : StopsShort trade me now old new)
-      → (new.journal ≡ (turned trade me now rooms (short_cut old new short) old).site.journal)
-      × (new.interrupted ≡ (turned trade me now rooms (short_cut old new short) old).site.interrupted)
+  -- a turn that stopped behind steps that were planned so has their entries
+  stops_by : (rooms : ℕ → ℕ) (old new : Site) (cut : Cut) (steps frames : ℕ) → old.up ≡ true
+      → last_of trade me old.journal ≤ now
+      → new ≡ behind old (take steps (steps_of trade me now old cut)) frames
+      → ((l : List Step) → ((behind old (take steps l) frames).journal ≡ (cut_turn trade me rooms old l cut).site.journal)
+      × ((behind old (take steps l) frames).interrupted ≡ (cut_turn trade me rooms old l cut).site.interrupted))
+      → (new.journal ≡ (turned trade me now rooms cut old).site.journal)
+      × (new.interrupted ≡ (turned trade me now rooms cut old).site.interrupted)
   unfolding turned
-  stops_short rooms old new short =
+  stops_by rooms old new cut steps frames up in_time new_is site_is =
       let late = not_begun old (faults.ClockBack (last_of trade me old.journal)) in
-      let cut = short_cut old new short in
       let begun = cut_turn trade me rooms old (steps_of trade me now old cut) cut in
       let is = if_so old.up (if nat_lt now (last_of trade me old.journal) then late else begun)
-      (not_begun old faults.Down) short.up
+      (not_begun old faults.Down) up
       ∙ if_not (nat_lt now (last_of trade me old.journal)) late begun
-      (le-ltb now (last_of trade me old.journal) short.in_time) in (
-        ap (λ (s : Site). s.journal) short.front.is ∙ sym (ap (λ (t : Turned). t.site.journal) is),
-        ap (λ (s : Site). s.interrupted) short.front.is ∙ sym (ap (λ (t : Turned). t.site.interrupted) is),
+      (le-ltb now (last_of trade me old.journal) in_time) in
+      let same = site_is (steps_of trade me now old cut) in (
+        ap (λ (s : Site). s.journal) new_is ∙ same.0 ∙ sym (ap (λ (t : Turned). t.site.journal) is),
+        ap (λ (s : Site). s.interrupted) new_is ∙ same.1 ∙ sym (ap (λ (t : Turned). t.site.interrupted) is),
       )
+
+  -- a turn that had begun is cut where memory ran out, with what was found in it
+  pub record ShortCut (Stood : Type 0) (rooms : ℕ → ℕ) (old new : Site) : Type 0 where
+    pub cut : Cut
+    pub instead : put_instead cut ≡ None
+    pub kept : Stood → IsOfKept cut
+    pub journal : new.journal ≡ (turned trade me now rooms cut old).site.journal
+    pub interrupted : new.interrupted ≡ (turned trade me now rooms cut old).site.interrupted
+
+  pub short_cut : (Stood : Type 0) (rooms : ℕ → ℕ) (old new : Site) → StopsShort Stood trade me now old new
+      → ShortCut Stood rooms old new
+  short_cut Stood rooms old new short =
+      let steps = short.front.steps in
+      let frames = short.front.frames in
+      elim short.front.kept [
+        | inl same ↦
+            let is = stops_by rooms old new (Stops steps) steps frames short.up short.in_time
+            (short.front.is ∙ ap (λ (looks : Looks). behind old
+            (take steps (plan trade me now looks old.journal (frames_in old.waiting))) frames) same)
+            (λ l. (refl, refl)) in
+            record {
+              cut = Stops steps;
+              instead = refl;
+              kept = λ stood. tt;
+              journal = is.0;
+              interrupted = is.1;
+            }
+        | inr other ↦
+            let cut = Sees short.front.looks (Stops steps) in
+            let is = stops_by rooms old new cut steps frames short.up short.in_time short.front.is (λ l. (refl, refl)) in
+            record {
+              cut = cut;
+              instead = refl;
+              kept = λ stood. absurd (other stood);
+              journal = is.0;
+              interrupted = is.1;
+            }
+      ]

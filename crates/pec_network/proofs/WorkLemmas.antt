@@ -29,7 +29,7 @@ use Rattle.pec_seal.specs.Seals.{Seals}
 use Rattle.pec_provider.specs.OfTrades.{trade_of}
 use Rattle.pec_network.specs.Carrying.{AllCarryOn, AllStand, NoneFalls}
 use Rattle.pec_network.specs.Network.{IsOfDirectory, sites_of}
-use Rattle.pec_network.specs.Rounds.{AreRooms, BlamesDisks, FramesAreGenuine, IsRound, KeepsSound, StopsWithin}
+use Rattle.pec_network.specs.Rounds.{AreRooms, BlamesDisks, FramesAreGenuine, IsRound, KeepsSound, StopsOver}
 use Rattle.pec_network.specs.Looking.{AllLookAlike, LookAlike}
 use Rattle.pec_network.specs.Turning.{StopsShort, Took, room_in, turn_of}
 use Rattle.pec_network.specs.Working.{IsReady, Worked, judges_in, providers_in, putters_in, rooms_in, takers_in, tolds_in}
@@ -73,7 +73,8 @@ module _ {D : Type 0} (Tells : Type 0) (sight : D → Sight) (count : D → ℕ)
     (old : List (ProviderState D)) (screens : List (List Patterns)) (waited : List Waiting) where
   -- What the round leaves, whether or not each told its turn.
   pub record Leaves (now : List (ProviderState D)) (arrivals : List Waiting) : Type 0 where
-    pub stops : StopsWithin (trade_of kept seals) moment (sites_of old screens waited) (sites_of now screens arrivals)
+    pub stops : StopsOver (Tells × AllStand sight old) (trade_of kept seals) moment (sites_of old screens waited)
+        (sites_of now screens arrivals)
     pub whole : IsOfDirectory kept seals now arrivals
     pub carries : Tells → (journals : Journals) → Fit (trade_of kept seals) journals
         → FramesAreGenuine (trade_of kept seals) journals (sites_of old screens waited)
@@ -279,12 +280,12 @@ module _ {D J : Type 0} (Tells : Type 0) (sight : D → Sight) (count : D → �
             (site_of (desk_of was.provider) boxes (waits was.takers))
             (turn_of (site_of (desk_of done.provider) boxes (waits done.takers)) turn out)) (sym (boxes_at k slot l)) took
 
-        short_so : StopsShort trade k moment (site_of (desk_of was.provider) (patterns was.judge) (waits was.takers))
+        short_so : StopsShort (Tells × Stands sight was.provider.chronicle) trade k moment (site_of (desk_of was.provider) (patterns was.judge) (waits was.takers))
             (site_of (desk_of done.provider) (patterns was.judge) (waits done.takers))
-            → StopsShort trade k moment (site_of (desk_of was.provider) (get_or screens k []) (waits was.takers))
+            → StopsShort (Tells × Stands sight was.provider.chronicle) trade k moment (site_of (desk_of was.provider) (get_or screens k []) (waits was.takers))
             (site_of (desk_of done.provider) (get_or screens k []) (waits done.takers))
         short_so short =
-            subst (λ (boxes : List Patterns). StopsShort trade k moment (site_of (desk_of was.provider) boxes (waits was.takers))
+            subst (λ (boxes : List Patterns). StopsShort (Tells × Stands sight was.provider.chronicle) trade k moment (site_of (desk_of was.provider) boxes (waits was.takers))
             (site_of (desk_of done.provider) boxes (waits done.takers))) (sym (boxes_at k slot l)) short
 
         front_so : (told : Option Turn) → done.told ≡ told → HasFront (Tells × AllStand sight old) trade moment (sites_of old screens waited) k
@@ -466,7 +467,7 @@ module _ {D J : Type 0} (Tells : Type 0) (sight : D → Sight) (count : D → �
               nothing_owed = whole.nothing_owed;
             }
 
-        pub stops_so : StopsWithin trade moment (sites_of old screens waited) (sites_of new screens arrivals)
+        pub stops_so : StopsOver (Tells × AllStand sight old) trade moment (sites_of old screens waited) (sites_of new screens arrivals)
         stops_so = stops_behind Tells sight count kept seals trade moment old screens waited seated.whole all_of (length slots) new left arrivals all_worked
 
         -- on a link waits what its taker left, and behind it what its putter put
@@ -626,7 +627,8 @@ module _ {D J : Type 0} (Tells : Type 0) (sight : D → Sight) (count : D → �
 
           pub leaves : Leaves Tells sight count kept seals moment old screens waited now arrivals
           leaves = record {
-            stops = subst (λ (p : List (ProviderState D)). StopsWithin trade moment (sites_of old screens waited) (sites_of p screens arrivals))
+            stops = subst (λ (p : List (ProviderState D)). StopsOver (Tells × AllStand sight old) trade moment
+                (sites_of old screens waited) (sites_of p screens arrivals))
                 (sym now_is) (stops_so arrivals are_joined);
             whole = subst (λ (p : List (ProviderState D)). IsOfDirectory kept seals p arrivals) (sym now_is)
                 (whole_again arrivals are_joined);

@@ -1,5 +1,5 @@
 -- What a round of a network is: it was played, with cuts that its turns tell (`IsRound`), or memory ran out within it
--- (`StopsWithin`). This project's profile.
+-- (`StopsWithin`, `StopsOver`). This project's profile.
 use Rattle.std.specs.Prelude.{◌≡◌, ◌≢◌, ℕ, ◌<◌, ◌≤◌, false, List, [], length, map, slice_get, slice_index_or}
 use Rattle.std.specs.Prelude.{All, Some, None}
 use Rattle.pec_types.specs.declared.turns.ProviderFault.TheVariants as faults
@@ -53,6 +53,11 @@ pub record StopsWithin (trade : Trade) (moment : ℕ) (old new : List Site) : Ty
       → journal_at new provider ≡ journal_at (played trade luck old (Round moment)).after provider
   pub interrupted : (provider : ℕ)
       → interrupted_at new provider ≡ interrupted_at (played trade luck old (Round moment)).after provider
+
+-- So it was over these disks: where all gave back what they took, which `Stood` says, screens looked at what was taken.
+abbrev pub StopsOver : Type 0 → Trade → ℕ → List Site → List Site → Type 0
+StopsOver Stood trade moment old new =
+    (stops : StopsWithin trade moment old new) × (Stood → GaveWhatWasKept stops.luck)
 
 -- ---- what is asked and told of disks
 

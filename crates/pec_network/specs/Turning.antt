@@ -83,18 +83,20 @@ Puts Stood due rooms old new None out =
 Puts Stood due rooms old new (Some fault) out =
     (new ≡ stopped old) × (old.interrupted ≡ None) × IsOfRead fault × (out ≡ [])
 
--- Some steps of a turn were done, in which screens found so, and some frames are gone.
-pub record IsFront (trade : Trade) (me now : ℕ) (old new : Site) : Type 0 where
+-- Some steps of a turn were done, in which screens found so, and some frames are gone. They found what the provider's own
+-- screens find in what was taken, unless the disk gave back something else: `Stood` says when it gave back what it took.
+pub record IsFront (Stood : Type 0) (trade : Trade) (me now : ℕ) (old new : Site) : Type 0 where
   pub looks : Looks
+  pub kept : (looks ≡ kept_looks trade me old.screens) ⊎ (Stood → ⊥)
   pub steps : ℕ
   pub frames : ℕ
   pub is : new ≡ behind old (take steps (plan trade me now looks old.journal (frames_in old.waiting))) frames
 
 -- In a turn that had begun memory ran out: what was done is a front of it.
-pub record StopsShort (trade : Trade) (me now : ℕ) (old new : Site) : Type 0 where
+pub record StopsShort (Stood : Type 0) (trade : Trade) (me now : ℕ) (old new : Site) : Type 0 where
   pub up : old.up ≡ true
   pub in_time : last_of trade me old.journal ≤ now
-  pub front : IsFront trade me now old new
+  pub front : IsFront Stood trade me now old new
 
 -- a turn, of what is told of it and what was put
 abbrev pub turn_of : Site → Turn → List (List Bytes) → Turned

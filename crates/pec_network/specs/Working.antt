@@ -83,7 +83,8 @@ module _ {D J : Type 0} (Tells : Type 0) (sight : D → Sight) (count : D → �
   pub record Worked : Type 0 where
     pub out : List (List Bytes)
     pub turn : (turn : Turn) → new.told ≡ Some turn → TookTurn turn out
-    pub short : new.told ≡ None → StopsShort (trade_of kept seals) me moment began stands_now
+    pub short : new.told ≡ None → StopsShort (Tells × Stands sight old.provider.chronicle)
+        (trade_of kept seals) me moment began stands_now
     pub puts : ArePut old.putters out new.putters
     pub frames : knowns new.takers ≡ knowns old.takers
     pub runs : Runs kept seals me new.provider

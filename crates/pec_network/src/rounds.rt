@@ -8,7 +8,7 @@ ghost use Rattle.pec_posts.specs.Parting.{HasRoom, ends_in};
 ghost use Rattle.pec_network.specs.Carrying.{AllCarryOn, AllStand, NoneFalls};
 ghost use Rattle.pec_network.specs.Looking.{AllLookAlike};
 ghost use Rattle.pec_network.specs.Network.{IsOfDirectory, sites, sites_of, world_of};
-ghost use Rattle.pec_network.specs.Rounds.{AreRooms, BlamesDisks, FramesAreGenuine, IsRound, StopsWithin};
+ghost use Rattle.pec_network.specs.Rounds.{AreRooms, BlamesDisks, FramesAreGenuine, IsRound, StopsOver};
 ghost use Rattle.pec_network.specs.Working.{judges_in, providers_in, putters_in, rooms_in, takers_in, tolds_in, turns_told};
 
 use crate::gates::Gate;
@@ -50,7 +50,8 @@ where
         // from a Sound state none ended by `Changed`.
         ensures plays { IfOk result (λ turns. IsRound (D.tells × AllStand D.sight self.old.providers)
             (world_of S.seals self.old) moment (sites self.old) turns.items (sites self.new)) }
-        ensures stops { OnErr result (StopsWithin (world_of S.seals self.old) moment
+        ensures stops { OnErr result (StopsOver (D.tells × AllStand D.sight self.old.providers)
+            (world_of S.seals self.old) moment
             (sites self.old) (sites self.new)) }
         ensures same { (self.new.kept ≡ self.old.kept) × (self.new.sealer ≡ self.old.sealer) }
         ensures screens { self.new.screens ≡ self.old.screens }
@@ -106,7 +107,7 @@ where
         (trade_of directory.now (S.seals sealer.now)) moment
         (sites_of providers.old.items (map J.patterns judges.old.items) arrivals.old.items) turns.items
         (sites_of providers.new.items (map J.patterns judges.old.items) arrivals.new.items)) }
-    ensures stops { OnErr result (StopsWithin (trade_of directory.now (S.seals sealer.now)) moment
+    ensures stops { OnErr result (StopsOver (D.tells × AllStand D.sight providers.old.items) (trade_of directory.now (S.seals sealer.now)) moment
         (sites_of providers.old.items (map J.patterns judges.old.items) arrivals.old.items)
         (sites_of providers.new.items (map J.patterns judges.old.items) arrivals.new.items)) }
     ensures screens { map J.patterns judges.new.items ≡ map J.patterns judges.old.items }

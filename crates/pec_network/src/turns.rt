@@ -69,8 +69,9 @@ pub fn take_turn<D: Disk, S: Sealer, J: Judge>(
     // It puts no more than there is room for.
     ensures fit { IfOk result (λ taken. (to : ℕ) → length (slice_index_or taken.out to []) ≤ room_in rooms.now to) }
 
-    // On want of memory what was appended is a front of the turn.
-    ensures short { OnErr result (StopsShort (world_at house.now) house.now.me moment
+    // On want of memory what was appended is a front of the turn, in which over such a disk its screens looked at what
+    // was taken.
+    ensures short { OnErr result (StopsShort (D.tells × Stands D.sight provider.old.chronicle) (world_at house.now) house.now.me moment
         (site_of (desk_of provider.old) (J.patterns judge.old) (waits takers.old))
         (site_of (desk_of provider.new) (J.patterns judge.old) (waits takers.new))) }
     ensures nothing_owed { provider.new.owed ≡ [] }
@@ -120,7 +121,7 @@ fn turn<D: Disk, S: Sealer, J: Judge>(
         (J.patterns judge.old) (waits takers.new)) taken.turn taken.out)) }
     ensures memory { IfOk result (λ taken. taken.turn.ended ≢ Some faults.NoMemory) }
     ensures fit { IfOk result (λ taken. (to : ℕ) → length (slice_index_or taken.out to []) ≤ room_in rooms.now to) }
-    ensures short { OnErr result (StopsShort (world_at house.now) house.now.me moment
+    ensures short { OnErr result (StopsShort (D.tells × Stands D.sight provider.old.chronicle) (world_at house.now) house.now.me moment
         (site_of (desk_of provider.old) (J.patterns judge.old) (waits takers.old))
         (site_of (desk_of provider.new) (J.patterns judge.old) (waits takers.new))) }
     ensures patterns { J.patterns judge.new ≡ J.patterns judge.old }

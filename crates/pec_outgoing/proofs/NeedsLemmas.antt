@@ -116,10 +116,10 @@ module _ (trade : Trade) (me : ℕ) (journal : List Entry) (entry : Entry) where
   charge_so id row original at e = rw (taken_so id row original at e) refl
 
   outcome_so : (id : Id) (recipient : Bytes) (fate : Fate) (row : Taken) (original : Bytes)
-      → slice_get journal row.entry ≡ Some entry → enveloped_in trade id entry ≡ Some original
+      → slice_get journal row.entry ≡ Some entry → Holds trade (OutcomeAsked id recipient fate row) entry original
       → composed_from trade me (OutcomeAsked id recipient fate row) original
       ≡ outcome_of trade me journal id recipient fate row
-  outcome_so id recipient fate row original at e = rw (taken_so id row original at e) (addressee_so id fate.decision _ (trade.facts original))
+  outcome_so id recipient fate row original at holds = rw (taken_so id row original at holds.0) (addressee_so id fate.decision _ (trade.facts original))
 
   ack_so : (id : Id) (recipient : Bytes) (known : Known) (row : Accepted) (original : Bytes)
       → slice_get journal row.entry ≡ Some entry → HoldsMessage trade row entry original

@@ -1,6 +1,6 @@
 -- The message that an entry holds, where the entry is of the tag, and of the id, that is asked for. This project's
 -- profile.
-use Rattle.std.specs.Prelude.{ℕ, ◌==◌, Bool, false, ◌&&◌, if◌then◌else◌, Option, Some, None}
+use Rattle.std.specs.Prelude.{ℕ, ◌==◌, nat_lt, Bool, false, ◌&&◌, length, if◌then◌else◌, Option, Some, None}
 use Rattle.std.specs.Str.{bytes_eq}
 use Rattle.pec_types.specs.Bytes.{Bytes}
 use Rattle.pec_types.specs.Message.{Id}
@@ -36,9 +36,10 @@ abbrev pub anomaly_in : Entry → Option Bytes
 anomaly_in (entries.Anomaly moment accounts message) = Some message
 anomaly_in _ = None
 
--- a message that wasn't accepted, which came at this moment from this account
+-- a message that wasn't accepted, which came at this moment from this account, along a path of at least one address
 abbrev pub is_refused_in : ℕ → Bytes → Entry → Bool
-is_refused_in moment sender (entries.NotAccepted at from cause path message) = (moment == at) && bytes_eq sender from
+is_refused_in moment sender (entries.NotAccepted at from cause path message) =
+    ((moment == at) && bytes_eq sender from) && nat_lt 0 (length path)
 is_refused_in moment sender _ = false
 
 -- so it is of a row, where there is one

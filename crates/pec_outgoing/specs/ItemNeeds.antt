@@ -72,11 +72,17 @@ module _ (trade : Trade) (me : ℕ) where
 
   -- The entry is what this item is composed of: an envelope of an entry by which its message was taken; a receipt of
   -- delivery or of an error, but for a virus, of one by which the outcome for its recipient was learned; a notice of
-  -- non-acceptance of one by which a message wasn't accepted, at the row's moment and from its sender; an anomaly of one
-  -- that holds an anomaly; and any other receipt of the entry by which the message was accepted, at the row's moment, from
-  -- its sender and with its facts.
+  -- non-acceptance of one by which a message wasn't accepted, at the row's moment, from its sender and along a path of at
+  -- least one address; an anomaly of one that holds an anomaly; and any other receipt of the entry by which the message was
+  -- accepted, at the row's moment, from its sender and with its facts.
   pub record ServesItem (half : Half) (posted : Posted) (entry : Entry) : Type 0 where
     pub wanted : Wanted
     pub has : posted_wanted half posted ≡ Some wanted
     pub text : Bytes
+    pub shown : IsShown wanted entry text
+
+  -- These are the item's bytes, composed of this entry, which is what the item is composed of.
+  pub record ShownOf (half : Half) (posted : Posted) (entry : Entry) (text : Bytes) : Type 0 where
+    pub wanted : Wanted
+    pub has : posted_wanted half posted ≡ Some wanted
     pub shown : IsShown wanted entry text

@@ -1,13 +1,16 @@
 -- Of which entry a letter is composed: its number, `needed`; and that an entry is what the letter is composed of:
 -- `Serves`. RFC 6109, section 3, within this project's profile.
-use Rattle.std.specs.Prelude.{◌≡◌, ℕ, ◌==◌, [], ◌∷◌, if◌then◌else◌, Option, Some, None}
+use Rattle.std.specs.Prelude.{◌≡◌, ℕ, ◌==◌, Bool, false, IsTrue, List, [], ◌∷◌, if◌then◌else◌, Option, Some, None}
+use Rattle.std.specs.List.{list_any}
 use Rattle.std.specs.Option.{option_and_then, option_map}
+use Rattle.std.specs.Str.{bytes_eq}
 use Rattle.pec_types.specs.Bytes.{Bytes}
 use Rattle.pec_types.specs.Message.{Id}
 use Rattle.pec_types.specs.declared.letters.Letter.{Letter}
 use Rattle.pec_types.specs.declared.letters.Letter.TheVariants as letters
 use Rattle.pec_types.specs.declared.messages.Decision.{Decision}
 use Rattle.pec_types.specs.declared.messages.Facts.{Facts}
+use Rattle.pec_types.specs.declared.messages.Recipient.{Recipient}
 use Rattle.pec_types.specs.declared.receipts.Kind.{Kind}
 use Rattle.pec_types.specs.declared.receipts.Kind.TheVariants as kinds
 use Rattle.pec_records.specs.declared.entries.Entry.{Entry}
@@ -58,6 +61,15 @@ abbrev pub to_one : Option Bytes → Bytes → Option Framed
 to_one None text = None
 to_one (Some address) text = unless_empty (address ∷ []) text
 
+-- one of these recipients has this address
+abbrev pub is_among : List Recipient → Bytes → Bool
+is_among recipients address = list_any (λ (recipient : Recipient). bytes_eq address recipient.address) recipients
+
+-- so it is in a message's facts, where it has some
+abbrev pub is_named_in : Option Facts → Bytes → Bool
+is_named_in None address = false
+is_named_in (Some facts) address = is_among facts.recipients address
+
 module _ (trade : Trade) where
   -- ---- what the entry has to hold
 
@@ -71,16 +83,17 @@ module _ (trade : Trade) where
   enveloped_in id entry =
       option_and_then (λ (envelope : Bytes). original_in id (trade.view envelope)) (took_in id entry)
 
-  -- The entry holds the original of which the letter is composed.
+  -- The entry holds the original of which the letter is composed. That of an outcome names the recipient.
   abbrev pub Holds : Asked → Entry → Bytes → Type 0
   Holds (EnvelopeAsked id to row) entry original = HoldsMessage row entry original
   Holds (ChargeAsked id row) entry original = enveloped_in id entry ≡ Some original
-  Holds (OutcomeAsked id recipient fate row) entry original = enveloped_in id entry ≡ Some original
+  Holds (OutcomeAsked id recipient fate row) entry original =
+      (enveloped_in id entry ≡ Some original) × IsTrue (is_named_in (trade.facts original) recipient)
   Holds (AckAsked id recipient known row) entry original = HoldsMessage row entry original
 
   -- The entry is what this letter is composed of: an envelope and an acknowledgement of the entry by which the message
   -- was accepted, at the row's moment, from its sender and with its facts; a charge and an outcome of an entry by which
-  -- this message was taken, with an envelope that is seen as one of it.
+  -- this message was taken, with an envelope that is seen as one of it, and whose original names an outcome's recipient.
   pub record Serves (me : ℕ) (half : Half) (letter : Letter) (entry : Entry) : Type 0 where
     pub asked : Asked
     pub has : asked_by me half letter ≡ Some asked

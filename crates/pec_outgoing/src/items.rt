@@ -1,4 +1,4 @@
-ghost use Rattle.std.specs.Prelude.{◌≡◌, ℕ, List, Some, option_map, slice_get, IfOk, IsErrOf, IsTrue, OnOk};
+ghost use Rattle.std.specs.Prelude.{◌≡◌, ℕ, List, Some, option_map, slice_get, IfOk, IsErrOf, IsTrue};
 ghost use Rattle.pec_types.specs.Bytes.{Bytes};
 ghost use Rattle.pec_records.specs.declared.entries.Entry.{Entry as SomeEntry};
 ghost use Rattle.pec_ledger.specs.Items.{item_text, refusal_by};
@@ -6,7 +6,7 @@ ghost use Rattle.pec_ledger.specs.OfDirectory.{facts_in};
 ghost use Rattle.pec_trade.specs.Houses.{world_at};
 ghost use Rattle.pec_outgoing.specs.Desk.{IsHalfOf};
 ghost use Rattle.pec_outgoing.specs.Entries.{is_of_row, learned_in, took_in};
-ghost use Rattle.pec_outgoing.specs.ItemNeeds.{AnomalyWanted, IsShown, ReceiptWanted, ServesItem, needed_item};
+ghost use Rattle.pec_outgoing.specs.ItemNeeds.{AnomalyWanted, IsShown, ReceiptWanted, ServesItem, ShownOf, needed_item};
 ghost use Rattle.pec_outgoing.specs.Needs.{receipt_on};
 ghost use Rattle.pec_outgoing.specs.Views.{own_shown, wanted_shown};
 ghost use Rattle.pec_outgoing.specs.declared.faults.ComposeFault.TheVariants as faults;
@@ -39,8 +39,9 @@ pub fn item<S: Sealer>(
     posted: &PostedRow,
     entry: &Entry,
 ) -> Result<Vec<u8>, ComposeFault>
-    ensures serves { OnOk result
-        (ServesItem (world_at house.now) shelf.now.me shelf.now.half posted.now entry.now) }
+    // Of whatever entry this is, the bytes are composed of it.
+    ensures of { IfOk result (λ text.
+        ShownOf (world_at house.now) shelf.now.me shelf.now.half posted.now entry.now text.items) }
     ensures changed { IsErrOf result faults.Changed
         → ServesItem (world_at house.now) shelf.now.me shelf.now.half posted.now entry.now → ⊥ }
     // Of the entry that stands at the needed number of its journal, these are the item's bytes.
@@ -177,7 +178,7 @@ fn copied(alloc: Global, address: &Option<Address>) -> Result<Option<Address>, N
     Ok(Some(copy))
 }
 
-/// The notice that a message wasn't accepted, of an entry that has the moment and the sender of its row.
+/// The notice that a message wasn't accepted, of an entry that has the moment and the sender of its row, and a path.
 fn refusal<S: Sealer>(
     desk: &Desk<'_, S>,
     id: MsgId,

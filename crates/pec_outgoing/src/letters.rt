@@ -15,7 +15,7 @@ use crate::asking::{Asked, Own};
 use crate::desks::Desk;
 use crate::faults::ComposeFault;
 use crate::originals::{Original, accepted_original, taken_original};
-use crate::paths::{addresses_at, path_to, receipts_at};
+use crate::paths::{addresses_at, is_among, path_to, receipts_at};
 use crate::texts::{envelope_text, receipt_text};
 use pec_receipts::Receipt;
 use pec_records::Entry;
@@ -170,7 +170,7 @@ fn charge_with<S: Sealer>(
 }
 
 /// The letter on a pair that was decided here: to the message's sender, or where it is a virus to the sender's
-/// provider.
+/// provider. The original names the recipient.
 fn outcome<S: Sealer>(
     desk: &Desk<'_, S>,
     id: MsgId,
@@ -185,6 +185,9 @@ fn outcome<S: Sealer>(
         → Holds (world_at desk.now.house.now) (OutcomeAsked id recipient.now fate.now row.now) entry.now original → ⊥ }
 {
     let found = taken_original(desk, id, entry)?;
+    if !is_among(found.facts.recipients.as_slice(), recipient) {
+        return Err(ComposeFault::Changed);
+    }
     let letter = outcome_with(desk, id, recipient, fate, row, found)?;
     Ok(letter)
 }

@@ -1,6 +1,7 @@
 ghost use Rattle.std.specs.Prelude.{◌≡◌, ◌<◌, [], ◌∷◌, filter, length, map, unwrap_or, IfOk};
 ghost use Rattle.pec_directory.specs.Directory.{home_of, is_number, providers_of};
 ghost use Rattle.pec_ledger.specs.Lookups.{is_home};
+ghost use Rattle.pec_outgoing.specs.Needs.{is_among};
 ghost use Rattle.pec_receipts.specs.Receipts.{receipts_at};
 ghost use Rattle.pec_types.specs.Bytes.{Bytes};
 ghost use Rattle.pec_types.specs.declared.messages.Recipient.{Recipient as SomeRecipient};
@@ -18,6 +19,15 @@ pub(crate) fn is_at_home(directory: &Directory, provider: u32, address: &Address
         Some(home) => provider == home,
         None => false,
     }
+}
+
+/// Whether one of these recipients has this address. It takes no memory.
+pub(crate) fn is_among(recipients: &[Recipient], address: &Address) -> bool
+    ensures { result ≡ is_among recipients.now address.now }
+{
+    recipients
+        .iter()
+        .any(|recipient| address.bytes() == recipient.address.bytes())
 }
 
 /// The addresses of those recipients that are at home at a provider.

@@ -1,6 +1,6 @@
 -- How frames are composed for one letter after another, and when the entry that was read isn't what is composed of it.
 use Rattle.std.proofs.Common.{◌≡◌, ℕ, ◌+◌, ◌<◌, ◌≤◌, ◌==◌, Bool, true, List, [], ◌∷◌, ◌++◌, length, take, get_or, refl, ap, append_assoc, sym, subst, ◌∙◌, arith}
-use Rattle.std.proofs.Common.{Global, Option, Some, None, Result, Ok, Err, Vec}
+use Rattle.std.proofs.Common.{Global, Option, Some, None, Result, Ok, Err, Vec, inl, inr}
 use Rattle.std.specs.Prelude.{Contains, IfErr, IfOk, IfSome, IsErrOf, IsSome, if◌then◌else◌, slice_get}
 use Rattle.std.specs.List.{filter_map}
 use Rattle.std.specs.Option.{option_and_then, option_map, option_to_list}
@@ -50,12 +50,25 @@ one_at_most : {X : Type 0} (o : Option X) → length (option_to_list o) ≤ 1
 one_at_most None = omega arith
 one_at_most (Some x) = omega arith
 
+-- what was read as one disk stands was read as another one does
+framed_where : (Stood Other : Type 0) (trade : Trade) (me : ℕ) (journal : List Entry) (letter : Letter)
+    (found : Option Bytes) → (Other → Stood) → IsFramed Stood trade me journal letter found
+    → IsFramed Other trade me journal letter found
+framed_where Stood Other trade me journal letter found so (inl none) = inl none
+framed_where Stood Other trade me journal letter found so (inr by) = inr (record {
+  number = by.number;
+  needs = by.needs;
+  entry = by.entry;
+  given = record { there = λ other. by.given.there (so other); written = by.given.written };
+  of = by.of;
+})
+
 -- one letter more has its frame behind those of the letters before, of whatever entries they are composed
-framed_more : (trade : Trade) (me : ℕ) (h : Half) (letters : List Letter) (frames : List Bytes) (letter : Letter)
-    (found : Option Bytes)
-    → AreFramed trade me h letters frames → IsFramed trade me h letter found
-    → AreFramed trade me h (letters ++ letter ∷ []) (frames ++ option_to_list found)
-framed_more trade me h [] frames letter found are is = (
+framed_more : (Stood : Type 0) (trade : Trade) (me : ℕ) (h : List Entry) (letters : List Letter) (frames : List Bytes)
+    (letter : Letter) (found : Option Bytes)
+    → AreFramed Stood trade me h letters frames → IsFramed Stood trade me h letter found
+    → AreFramed Stood trade me h (letters ++ letter ∷ []) (frames ++ option_to_list found)
+framed_more Stood trade me h [] frames letter found are is = (
   found,
   [],
   is,
@@ -63,11 +76,11 @@ framed_more trade me h [] frames letter found are is = (
   ap (λ (f : List Bytes). f ++ option_to_list found) are ∙ sym
       (append-nil (option_to_list found)),
 )
-framed_more trade me h (first ∷ letters) frames letter found are is = (
+framed_more Stood trade me h (first ∷ letters) frames letter found are is = (
   are.0,
   are.1 ++ option_to_list found,
   are.2,
-  framed_more trade me h letters are.1 letter found are.3 is,
+  framed_more Stood trade me h letters are.1 letter found are.3 is,
   ap (λ (f : List Bytes). f ++ option_to_list found) are.4
       ∙ append_assoc (option_to_list are.0) are.1 (option_to_list found),
 )
@@ -82,7 +95,7 @@ module _ {D : Type 0} (Tells : Type 0) (sight : D → Sight) (count : D → ℕ)
     pub few : length frames ≤ index
     pub are : Tells → Stands sight begun
         → frames ≡ filter_map (frame_of trade me begun.entries) (take index letters)
-    pub given : AreFramed trade me (half trade me begun.entries) (take index letters) frames
+    pub given : AreFramed (Tells × Stands sight begun) trade me begun.entries (take index letters) frames
 
   pub frames_none : (Tells → CarriesOn sight NothingMay begun begun) → FramesSoFar 0 begun []
   frames_none rests = record {
@@ -106,7 +119,7 @@ module _ {D : Type 0} (Tells : Type 0) (sight : D → Sight) (count : D → ℕ)
     pub frames_more : FramesMore → (found : Option Bytes) (more : List Bytes) → ReadsOver now new (Ok found)
         → (Tells → CarriesOn sight NothingMay now new) → count now.disk ≤ count new.disk
         → (Tells → Stands sight now → found ≡ frame_of trade me now.entries letter)
-        → IsFramed trade me (half trade me now.entries) letter found
+        → IsFramed (Tells × Stands sight now) trade me now.entries letter found
         → more ≡ frames ++ option_to_list found → FramesSoFar (index + 1) new more
     frames_more law found more reads carries later due framed pushed =
         let one = one_at_most found in
@@ -128,12 +141,16 @@ module _ {D : Type 0} (Tells : Type 0) (sight : D → Sight) (count : D → ℕ)
               ∙ ap (λ (l : List Letter). filter_map (frame_of trade me begun.entries) l)
               (ap (λ (x : Letter). take index letters ++ x ∷ []) is ∙ sym (take_more letters index letter l));
           given =
-              let h = half trade me begun.entries in
-              subst (λ (f : List Bytes). AreFramed trade me h (take (index + 1) letters) f) (sym pushed)
-              (subst (λ (l : List Letter). AreFramed trade me h l (frames ++ option_to_list found))
+              let Stood = Tells × Stands sight begun in
+              let h = begun.entries in
+              subst (λ (f : List Bytes). AreFramed Stood trade me h (take (index + 1) letters) f) (sym pushed)
+              (subst (λ (l : List Letter). AreFramed Stood trade me h l (frames ++ option_to_list found))
               (ap (λ (x : Letter). take index letters ++ x ∷ []) is ∙ sym (take_more letters index letter l))
-              (framed_more trade me h (take index letters) frames letter found so_far.given
-              (subst (λ (j : List Entry). IsFramed trade me (half trade me j) letter found) same_entries framed)));
+              (framed_more Stood trade me h (take index letters) frames letter found so_far.given
+              (framed_where (Tells × Stands sight now) Stood trade me h letter found
+              (λ stood. (stood.0, (so_far.carries stood.0).stands stood.1))
+              (subst (λ (j : List Entry). IsFramed (Tells × Stands sight now) trade me j letter found) same_entries
+              framed))));
         }
 
     -- the read for it fails
@@ -168,9 +185,9 @@ module _ {D : Type 0} (Tells : Type 0) (sight : D → Sight) (count : D → ℕ)
       ∙ ap (λ (all : List Letter). filter_map (frame_of trade me begun.entries) all) (take_all index letters l)
 
   pub frames_given : (index : ℕ) (now : ChronicleState D) (frames : List Bytes) → length letters ≤ index
-      → FramesSoFar index now frames → AreFramed trade me (half trade me begun.entries) letters frames
+      → FramesSoFar index now frames → AreFramed (Tells × Stands sight begun) trade me begun.entries letters frames
   frames_given index now frames l so_far =
-      subst (λ (all : List Letter). AreFramed trade me (half trade me begun.entries) all frames)
+      subst (λ (all : List Letter). AreFramed (Tells × Stands sight begun) trade me begun.entries all frames)
       (take_all index letters l) so_far.given
 
 -- ---- what has changed
@@ -338,15 +355,15 @@ module _ (trade : Trade) (shelf : Seen) (me : ℕ) (journal : List Entry) (to ro
       let l = law trade shelf.me shelf.half to room owed in omega (arith, few, e, l)
 
   -- of whatever entries they are composed, they are those of the due letters
-  pub given_so : (r : Result (Vec Bytes Global) ProviderFault)
-      → IfOk r (λ frames. AreFramed trade me (half trade me journal) letters frames.items)
-      → IfOk r (λ frames. AreFramed trade me (half trade me journal)
+  pub given_so : (Stood : Type 0) (r : Result (Vec Bytes Global) ProviderFault)
+      → IfOk r (λ frames. AreFramed Stood trade me journal letters frames.items)
+      → IfOk r (λ frames. AreFramed Stood trade me journal
       (due_letters trade me (half trade me journal) to room owed) frames.items)
-  given_so (Err fault) are = tt
-  given_so (Ok frames) are =
-      over_half (λ n h. AreFramed trade me (half trade me journal) (due_letters trade n h to room owed) frames.items)
+  given_so Stood (Err fault) are = tt
+  given_so Stood (Ok frames) are =
+      over_half (λ n h. AreFramed Stood trade me journal (due_letters trade n h to room owed) frames.items)
       trade shelf me journal is half_is
-      (subst (λ (all : List Letter). AreFramed trade me (half trade me journal) all frames.items) due are)
+      (subst (λ (all : List Letter). AreFramed Stood trade me journal all frames.items) due are)
 
   -- a letter among them for which an entry has changed is one that is due
   pub due_changed : (r : Result (Vec Bytes Global) ProviderFault)

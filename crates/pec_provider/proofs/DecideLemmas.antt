@@ -29,9 +29,9 @@ use Rattle.pec_reception.specs.declared.received.Received.{Received}
 use Rattle.pec_provider.specs.Deciding.{IsOfAccount, IsReady, IsUnready, ShowsNext}
 use Rattle.pec_provider.specs.Appending.{WorksAt}
 use Rattle.pec_provider.specs.Doing.{Undertakes, is_full_for}
-use Rattle.pec_provider.specs.Looking.{LooksAt, LooksBehind, LooksNext}
+use Rattle.pec_provider.specs.Looking.{HaveLooked, LooksAt, LooksBehind, LooksNext}
 use Rattle.pec_provider.specs.Provider.{Desk}
-use Rattle.pec_provider.specs.Reading.{EnvelopeIsChanged, IsNotOf, OnChanged, ReadsOver}
+use Rattle.pec_provider.specs.Reading.{EnvelopeIsChanged, FindsFirst, FindsIn, IsNotOf, OnChanged, ReadsOver}
 use Rattle.pec_provider.specs.Working.{Does}
 use Rattle.pec_provider.proofs.ReadLemmas.{changed_weaker}
 use Rattle.pec_provider.proofs.StepLemmas.{decide_so}
@@ -94,6 +94,8 @@ module _ (Stood : Type 0) (trade : Trade) (me now : ℕ) (screens : List Pattern
   ready_none none = record {
     found = found_of trade me screens journal (undecided trade me journal);
     finds = λ stood. found_so trade me screens journal;
+    given = subst (λ (pairs : List Pair). FindsFirst Stood trade me journal screens pairs
+        (found_of trade me screens journal (undecided trade me journal))) (sym none) tt;
     shows = subst (λ (pairs : List Pair). ShowsNext trade me now
         (found_of trade me screens journal (undecided trade me journal)) journal pairs None) (sym none) tt;
   }
@@ -105,23 +107,33 @@ module _ (Stood : Type 0) (trade : Trade) (me now : ℕ) (screens : List Pattern
       shows_first found shows =
           subst (λ (pairs : List Pair). ShowsNext trade me now found journal pairs (Some received)) (sym first) shows
 
+      given_first : (found : Bool)
+          → (IsTrue (trade.is_account me pair.recipient) → FindsIn Stood trade me journal screens pair.id found)
+          → FindsFirst Stood trade me journal screens (undecided trade me journal) found
+      given_first found given =
+          subst (λ (pairs : List Pair). FindsFirst Stood trade me journal screens pairs found) (sym first) given
+
       -- by whether the recipient is an account
       ready_by : (account : Bool) → trade.is_account me pair.recipient ≡ account → (found : Bool)
           → (Stood → IsTrue (trade.is_account me pair.recipient) → found ≡ found_in_taken trade me screens journal
           pair.id)
+          → (IsTrue (trade.is_account me pair.recipient) → FindsIn Stood trade me journal screens pair.id found)
           → Shows received (decide_as trade me now found journal pair)
           → IsReady Stood trade me now screens journal (Some received)
-      ready_by true is found finds shows = record {
+      ready_by true is found finds given shows = record {
         found = found;
         finds = λ stood other others e.
             finds stood is
             ∙ sym (ap (found_of trade me screens journal) first)
             ∙ found_so trade me screens journal other others e;
+        given = given_first found given;
         shows = shows_first found shows;
       }
-      ready_by false is found finds shows = record {
+      ready_by false is found finds given shows = record {
         found = found_of trade me screens journal (undecided trade me journal);
         finds = λ stood. found_so trade me screens journal;
+        given = given_first (found_of trade me screens journal (undecided trade me journal))
+            (λ account. absurd (false≢true (sym is ∙ account)));
         shows = shows_first (found_of trade me screens journal (undecided trade me journal))
             (rw (not_account trade me now (found_of trade me screens journal (undecided trade me journal)) found journal
             pair is) shows);
@@ -131,9 +143,11 @@ module _ (Stood : Type 0) (trade : Trade) (me now : ℕ) (screens : List Pattern
       pub ready_some : (found : Bool)
           → (Stood → IsTrue (trade.is_account me pair.recipient) → found ≡ found_in_taken trade me screens journal
           pair.id)
+          → (IsTrue (trade.is_account me pair.recipient) → FindsIn Stood trade me journal screens pair.id found)
           → Shows received (decide_as trade me now found journal pair)
           → IsReady Stood trade me now screens journal (Some received)
-      ready_some found finds shows = ready_by (trade.is_account me pair.recipient) refl found finds shows
+      ready_some found finds given shows =
+          ready_by (trade.is_account me pair.recipient) refl found finds given shows
 
 -- ---- why it isn't known
 
@@ -271,6 +285,21 @@ module _ (Y : Type 0) (trade : Trade) (me now : ℕ) (desk : Desk) where
   looks_idle X pairs interrupted seen faults.NoItem works = absurd works
   looks_idle X pairs interrupted seen (faults.Changed which) works = absurd works
 
+  -- so nothing came to them
+  pub idle_unlooked : (X : Type 0) (interrupted : Option Entry) (fault : ProviderFault)
+      → WorksAt {X = Y} trade me now desk (Err fault) → HaveLooked {X = X} interrupted (Err fault) → ⊥
+  idle_unlooked X interrupted faults.DiskFault works looked = works
+  idle_unlooked X interrupted faults.JournalFull works looked = works
+  idle_unlooked X interrupted faults.NoMemory works looked = looked
+  idle_unlooked X interrupted faults.Down works looked = looked
+  idle_unlooked X interrupted (faults.ClockBack moment) works looked = looked
+  idle_unlooked X interrupted faults.NoAccount works looked = looked
+  idle_unlooked X interrupted faults.Full works looked = looked
+  idle_unlooked X interrupted faults.OldJournal works looked = looked
+  idle_unlooked X interrupted faults.NoNeed works looked = looked
+  idle_unlooked X interrupted faults.NoItem works looked = looked
+  idle_unlooked X interrupted (faults.Changed which) works looked = looked
+
   -- and tells no entry as changed
   pub idle_changed : (P : ℕ → Type 0) (fault : ProviderFault) → WorksAt {X = Y} trade me now desk (Err fault)
       → OnChanged P fault
@@ -286,7 +315,24 @@ module _ (Y : Type 0) (trade : Trade) (me now : ℕ) (desk : Desk) where
   idle_changed P faults.NoItem works = absurd works
   idle_changed P (faults.Changed which) works = absurd works
 
--- nor does the append of a step's entry
+-- where nothing was ready no entry is interrupted, and nothing came to the screens
+pub unready_unlooked : (X : Type 0) (trade : Trade) (me : ℕ) (pairs : List Pair) (interrupted : Option Entry)
+    (fault : ProviderFault) → interrupted ≡ None → IsUnready trade me pairs fault
+    → HaveLooked {X = X} interrupted (Err fault) → ⊥
+unready_unlooked X trade me pairs interrupted faults.DiskFault whole unready looked =
+    false≢true (subst (λ (o : Option Entry). IsSome o) whole looked)
+unready_unlooked X trade me pairs interrupted faults.JournalFull whole unready looked = unready
+unready_unlooked X trade me pairs interrupted faults.NoMemory whole unready looked = looked
+unready_unlooked X trade me pairs interrupted faults.Down whole unready looked = looked
+unready_unlooked X trade me pairs interrupted (faults.ClockBack moment) whole unready looked = looked
+unready_unlooked X trade me pairs interrupted faults.NoAccount whole unready looked = looked
+unready_unlooked X trade me pairs interrupted faults.Full whole unready looked = looked
+unready_unlooked X trade me pairs interrupted faults.OldJournal whole unready looked = looked
+unready_unlooked X trade me pairs interrupted faults.NoNeed whole unready looked = looked
+unready_unlooked X trade me pairs interrupted faults.NoItem whole unready looked = looked
+unready_unlooked X trade me pairs interrupted (faults.Changed which) whole unready looked = looked
+
+-- the append of a step's entry tells no entry as changed
 pub does_changed : (P : ℕ → Type 0) (step : Step) (old new : Desk) (fault : ProviderFault)
     → Does step old new (Err fault) → OnChanged P fault
 does_changed P step old new faults.DiskFault does = tt

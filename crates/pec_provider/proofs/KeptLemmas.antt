@@ -1,13 +1,16 @@
 -- In any journal each row of the half to which it comes has its entry: what an item is composed of stands there, and so does
 -- the original of an own message. In journals that are Fit an envelope that was taken is seen as one of its message.
-use Rattle.std.proofs.Common.{◌≡◌, ℕ, zero, suc, Bool, true, false, List, [], ◌∷◌, ◌++◌, length, refl, ap, sym, subst, ◌∙◌, append_assoc, arith}
+use Rattle.std.proofs.Common.{◌≡◌, ℕ, ◌<◌, zero, suc, Bool, true, false, List, [], ◌∷◌, ◌++◌, cond, length, map, refl, ap, sym, subst, ◌∙◌, append_assoc, arith}
 use Rattle.std.proofs.Common.{Option, Some, None}
-use Rattle.std.specs.Prelude.{All, Contains, IsSome, fold, if◌then◌else◌, slice_get, ◌&&◌, ◌==◌}
+use Rattle.std.specs.Prelude.{All, Contains, IsSome, filter, fold, if◌then◌else◌, nat_lt, slice_get, ◌&&◌, ◌||◌, ◌==◌}
+use Rattle.std.specs.List.{find, list_any}
 use Rattle.std.specs.Option.{option_and_then, option_map}
 use Rattle.std.specs.Str.{bytes_eq}
-use Rattle.std.proofs.lemmas.Bool.{and_from, eq-eqb}
+use Rattle.std.proofs.lemmas.Bool.{and_from, eq-eqb, lt-ltb}
+use Rattle.std.proofs.lemmas.Cmp.{nat_list_eq_equiv}
 use Rattle.std.proofs.lemmas.List.{append-nil, length-append}
-use Rattle.std.proofs.lemmas.List.Elements.{All-append, All-cons, All-map, All-nil, All-weaker}
+use Rattle.std.proofs.lemmas.List.Elements.{All-append, All-cons, All-head, All-map, All-nil, All-tail, All-weaker}
+use Rattle.std.proofs.lemmas.Map.Views.{list_any-from_Contains}
 use Rattle.std.proofs.lemmas.Option.{get_or_from_slice_get, none-some, same_Some, slice_get_within}
 use Rattle.std.proofs.lemmas.Slice.Eq.{bytes_eq-Decides}
 use Rattle.pec_types.specs.Bytes.{Bytes, Path}
@@ -20,25 +23,29 @@ use Rattle.pec_types.specs.declared.messages.Cause.{Cause}
 use Rattle.pec_types.specs.declared.messages.Decision.{Decision}
 use Rattle.pec_types.specs.declared.messages.Decision.TheVariants.{Placed, Refused}
 use Rattle.pec_types.specs.declared.messages.Facts.{Facts}
+use Rattle.pec_types.specs.declared.messages.Recipient.{Recipient}
 use Rattle.pec_types.specs.declared.messages.Refusal.TheVariants as refusals
 use Rattle.pec_types.specs.declared.receipts.Kind.{Kind}
 use Rattle.pec_types.specs.declared.receipts.Kind.TheVariants as kinds
 use Rattle.pec_records.specs.declared.entries.Entry.{Entry}
 use Rattle.pec_records.specs.declared.entries.Entry.TheVariants as entries
+use Rattle.pec_ledger.specs.Along.{AllAlong}
 use Rattle.pec_ledger.specs.Half.{AnomalyItem, EnvelopeItem, Fate, Half, Item, Known, Message, Posted, ReceiptItem, Taken, empty}
 use Rattle.pec_ledger.specs.Items.{accepted_body, composed, item_text, original_at, refusal_by, taken_body, text_by}
 use Rattle.pec_ledger.specs.Ledger.{Fit, IsEnvelopeText, Journals, body_at, body_of, ledger}
-use Rattle.pec_ledger.specs.Lookups.{Accepted, accepted_at, accepted_of, decided_of, known_of, receipt_kind, taken_of}
+use Rattle.pec_ledger.specs.Lookups.{Accepted, accepted_at, accepted_of, addresses_of, at_home, decided_of, is_home, known_of, receipt_kind, taken_of}
 use Rattle.pec_ledger.specs.Marks.{marks_from}
-use Rattle.pec_ledger.specs.Pairs.{pair_of, same_id}
-use Rattle.pec_ledger.specs.Steps.{anomaly_by, half, items_by, kind_of_due, messages_by, notice_by, placed_by, step}
+use Rattle.pec_ledger.specs.Own.{IsTakenPair}
+use Rattle.pec_ledger.specs.Pairs.{Pair, pair_of, same_id}
+use Rattle.pec_ledger.specs.Steps.{anomaly_by, half, items_by, kind_of_due, messages_by, notice_by, placed_by, step, taken_by}
 use Rattle.pec_ledger.specs.Trade.{SeenEnvelope, Trade}
 use Rattle.pec_plays.specs.Frames.{original_in}
+use Rattle.pec_shelf.specs.Prepared.{AreSteps, IsStep}
 use Rattle.pec_outgoing.specs.Entries.{is_of_row, learned_in, took_in}
 use Rattle.pec_outgoing.specs.ItemNeeds.{AnomalyWanted, EnvelopeWanted, IsShown, OutcomeWanted, ReceiptWanted, RefusalWanted, ServesItem, Wanted}
 use Rattle.pec_outgoing.specs.ItemNeeds.{item_wanted, needed_item, number_wanted, posted_wanted}
 use Rattle.pec_outgoing.specs.Needs.{AckAsked, Asked, ChargeAsked, EnvelopeAsked, Holds, HoldsMessage, OutcomeAsked}
-use Rattle.pec_outgoing.specs.Needs.{asked_by, enveloped_in, needed, number_of}
+use Rattle.pec_outgoing.specs.Needs.{asked_by, enveloped_in, is_named_in, needed, number_of}
 use Rattle.pec_provider.specs.Reading.{EnvelopeIsChanged, IsNotOf, LetterIsChanged, PostedIsChanged}
 
 -- ---- lists and options
@@ -70,7 +77,7 @@ mapped f None y e = absurd (none-some y e)
 mapped f (Some x) y e = (x, refl, same_Some (f x) y e)
 
 -- what was found by way of another
-bound : {X Y : Type 0} (f : X → Option Y) (o : Option X) (y : Y) → option_and_then f o ≡ Some y → (x : X) × (o ≡ Some x) × (f x ≡ Some y)
+pub bound : {X Y : Type 0} (f : X → Option Y) (o : Option X) (y : Y) → option_and_then f o ≡ Some y → (x : X) × (o ≡ Some x) × (f x ≡ Some y)
 bound f None y e = absurd (none-some y e)
 bound f (Some x) y e = (x, refl, e)
 
@@ -80,11 +87,46 @@ then_so f o x y e g = ap (option_and_then f) e ∙ g
 some_by : {X : Type 0} (o : Option X) (x : X) → o ≡ Some x → IsSome o
 some_by {X} o x e = subst (λ (p : Option X). IsSome p) (sym e) refl
 
+-- so is what is found by a test
+found_by : {X : Type 0} (P : X → Type 0) (test : X → Bool) (xs : List X) (x : X) → All P xs → find test xs ≡ Some x → P x
+found_by P test [] x all e = absurd (none-some x e)
+found_by P test (y ∷ xs) x all e = by_test (test y) e (found_by P test xs x (All-tail P y xs all))
+  where
+    by_test : (b : Bool) → (if b then Some y else find test xs) ≡ Some x → (find test xs ≡ Some x → P x) → P x
+    by_test true e more = subst P (same_Some y x e) (All-head P y xs all)
+    by_test false e more = more e
+
+-- what some item passes that is left, some item of all passes
+or_any : (b c d : Bool) → (b || c) ≡ true → (c ≡ true → d ≡ true) → (b || d) ≡ true
+or_any true c d e more = refl
+or_any false c d e more = more e
+
+or_right : (b c : Bool) → c ≡ true → (b || c) ≡ true
+or_right true c e = refl
+or_right false c e = e
+
+any_filtered : {X : Type 0} (test keeps : X → Bool) (xs : List X) → list_any test (filter keeps xs) ≡ true
+    → list_any test xs ≡ true
+any_filtered test keeps [] e = e
+any_filtered test keeps (x ∷ xs) e = by_test (keeps x) e (any_filtered test keeps xs)
+  where
+    by_test : (b : Bool) → list_any test (cond b (x ∷ filter keeps xs) (filter keeps xs)) ≡ true
+        → (list_any test (filter keeps xs) ≡ true → list_any test xs ≡ true) → (test x || list_any test xs) ≡ true
+    by_test true e more = or_any (test x) (list_any test (filter keeps xs)) (list_any test xs) e more
+    by_test false e more = or_right (test x) (list_any test xs) (more e)
+
+-- and what is passed by what an item is mapped to, the item passes so
+any_mapped : {X Y : Type 0} (test : Y → Bool) (f : X → Y) (xs : List X) → list_any test (map f xs) ≡ true
+    → list_any (λ (x : X). test (f x)) xs ≡ true
+any_mapped test f [] e = e
+any_mapped {X} test f (x ∷ xs) e =
+    or_any (test (f x)) (list_any test (map f xs)) (list_any (λ (y : X). test (f y)) xs) e (any_mapped test f xs)
+
 -- where a test is true its first branch is taken
 chosen_so : {X : Type 0} (test : Bool) (one other : X) → test ≡ true → (if test then one else other) ≡ one
 chosen_so test one other e = rw e refl
 
-id_again : (id : Id) → same_id id id ≡ true
+pub id_again : (id : Id) → same_id id id ≡ true
 id_again id =
     and_from (id.provider == id.provider) (id.number == id.number) (eq-eqb id.provider id.provider refl)
     (eq-eqb id.number id.number refl)
@@ -126,6 +168,14 @@ pub record RefusedRow (journal : List Entry) (messages : List Message) (entry : 
   pub has : slice_get messages id.number ≡ Some row
   pub moment_is : row.moment ≡ moment
   pub sender_is : row.sender ≡ sender
+
+-- a message was taken by this entry, for those recipients of its envelope that are at home here
+pub record TakenRow (trade : Trade) (me : ℕ) (journal : List Entry) (row : Taken) : Type 0 where
+  pub moment : ℕ
+  pub id : Id
+  pub envelope : Bytes
+  pub there : slice_get journal row.entry ≡ Some (entries.Took moment id envelope)
+  pub recipients : row.recipients ≡ at_home trade me (trade.envelope_recipients envelope)
 
 -- an anomaly came by this entry
 pub record AnomalyRow (journal : List Entry) (entry : ℕ) : Type 0 where
@@ -199,6 +249,16 @@ item_stays front more messages further entry (AnomalyItem moment) row = record {
   there = stays front more entry (entries.Anomaly row.moment row.accounts row.message) row.there;
 }
 
+taken_stays : (trade : Trade) (me : ℕ) (front more : List Entry) (row : Taken) → TakenRow trade me front row
+    → TakenRow trade me (front ++ more) row
+taken_stays trade me front more row is = record {
+  moment = is.moment;
+  id = is.id;
+  envelope = is.envelope;
+  there = stays front more row.entry (entries.Took is.moment is.id is.envelope) is.there;
+  recipients = is.recipients;
+}
+
 message_stays : (trade : Trade) (front more : List Entry) (message : Message) → MessageRow trade front message
     → MessageRow trade (front ++ more) message
 message_stays trade front more message row = λ facts e.
@@ -254,6 +314,45 @@ module _ (trade : Trade) (me : ℕ) where
     message_rows (entries.Upgraded moment) = All-nil (MessageRow trade (front ++ entries.Upgraded moment ∷ []))
     message_rows (entries.Archived moment account place) =
         All-nil (MessageRow trade (front ++ entries.Archived moment account place ∷ []))
+
+    taken_rows : (entry : Entry) → All (TakenRow trade me (front ++ entry ∷ [])) (taken_by trade me h entry)
+    taken_rows (entries.Took moment id message) =
+        All-cons (TakenRow trade me (front ++ entries.Took moment id message ∷ []))
+        (record {
+          id = id;
+          moment = moment;
+          recipients = at_home trade me (trade.envelope_recipients message);
+          entry = h.entries;
+        }) []
+        (record {
+          moment = moment;
+          id = id;
+          envelope = message;
+          there = here (entries.Took moment id message);
+          recipients = refl;
+        })
+        (All-nil (TakenRow trade me (front ++ entries.Took moment id message ∷ [])))
+    taken_rows (entries.Start provider digest) =
+        All-nil (TakenRow trade me (front ++ entries.Start provider digest ∷ []))
+    taken_rows (entries.Accepted moment sender message) =
+        All-nil (TakenRow trade me (front ++ entries.Accepted moment sender message ∷ []))
+    taken_rows (entries.NotAccepted moment sender cause path message) =
+        All-nil (TakenRow trade me (front ++ entries.NotAccepted moment sender cause path message ∷ []))
+    taken_rows (entries.Decided moment id recipient decision) =
+        All-nil (TakenRow trade me (front ++ entries.Decided moment id recipient decision ∷ []))
+    taken_rows (entries.Charged moment id by) = All-nil (TakenRow trade me (front ++ entries.Charged moment id by ∷ []))
+    taken_rows (entries.Learned moment id recipient decision decided message) =
+        All-nil (TakenRow trade me (front ++ entries.Learned moment id recipient decision decided message ∷ []))
+    taken_rows (entries.Acked moment id recipient) =
+        All-nil (TakenRow trade me (front ++ entries.Acked moment id recipient ∷ []))
+    taken_rows (entries.Ticked moment) = All-nil (TakenRow trade me (front ++ entries.Ticked moment ∷ []))
+    taken_rows (entries.Anomaly moment accounts message) =
+        All-nil (TakenRow trade me (front ++ entries.Anomaly moment accounts message ∷ []))
+    taken_rows (entries.StartTwo provider digest) =
+        All-nil (TakenRow trade me (front ++ entries.StartTwo provider digest ∷ []))
+    taken_rows (entries.Upgraded moment) = All-nil (TakenRow trade me (front ++ entries.Upgraded moment ∷ []))
+    taken_rows (entries.Archived moment account place) =
+        All-nil (TakenRow trade me (front ++ entries.Archived moment account place ∷ []))
 
     one_item : (journal : List Entry) (messages : List Message) (posted : Posted) → HasItemRow journal messages posted
         → All (HasItemRow journal messages) (posted ∷ [])
@@ -371,6 +470,7 @@ module _ (trade : Trade) (me : ℕ) where
   pub record HaveEntries (journal : List Entry) (h : Half) : Type 0 where
     pub count : h.entries ≡ length journal
     pub messages : All (MessageRow trade journal) h.messages
+    pub taken : All (TakenRow trade me journal) h.taken
     pub items : All (HasItemRow journal h.messages) h.items
 
   one_more : (front : List Entry) (h : Half) (entry : Entry) → HaveEntries front h
@@ -383,6 +483,10 @@ module _ (trade : Trade) (me : ℕ) where
             (All-weaker (MessageRow trade front) (MessageRow trade (front ++ more))
             (λ message row. message_stays trade front more message row) h.messages have.messages)
             (message_rows front h have.count entry);
+        taken = All-append (TakenRow trade me (front ++ more)) h.taken (taken_by trade me h entry)
+            (All-weaker (TakenRow trade me front) (TakenRow trade me (front ++ more))
+            (λ row is. taken_stays trade me front more row is) h.taken have.taken)
+            (taken_rows front h have.count entry);
         items = All-append (HasItemRow (front ++ more) (messages_now front h have.count entry)) h.items
             (items_by trade me h entry)
             (All-weaker (HasItemRow front h.messages) (HasItemRow (front ++ more)
@@ -405,6 +509,7 @@ module _ (trade : Trade) (me : ℕ) where
   have_entries journal = all_along [] empty journal (record {
     count = refl;
     messages = All-nil (MessageRow trade []);
+    taken = All-nil (TakenRow trade me []);
     items = All-nil (HasItemRow [] []);
   })
 
@@ -459,7 +564,12 @@ module _ (trade : Trade) (me : ℕ) where
       pub shown : IsShown trade me wanted entry text
       pub has : IsSome (item_text trade me journal posted)
 
-    module _ (taken : HaveEnvelope) (account : Bytes) (number : ℕ) where
+    -- each message that wasn't accepted has a path
+    abbrev pub HavePaths : Type 0
+    HavePaths = (k : ℕ) (moment : ℕ) (sender : Bytes) (cause : Cause) (path : Path) (message : Bytes)
+        → slice_get journal k ≡ Some (entries.NotAccepted moment sender cause path message) → 0 < length path
+
+    module _ (taken : HaveEnvelope) (paths : HavePaths) (account : Bytes) (number : ℕ) where
       abbrev posted_as : Item → Posted
       posted_as item = record { account = account; item = item; entry = number }
 
@@ -550,9 +660,13 @@ module _ (trade : Trade) (me : ℕ) where
             text = text;
             shown = (
               ap (λ (found : Option Message). is_of_row found entry) row.has
-                  ∙ and_from (row.row.moment == row.moment) (bytes_eq row.row.sender row.sender)
+                  ∙ and_from ((row.row.moment == row.moment) && bytes_eq row.row.sender row.sender)
+                  (nat_lt 0 (length row.path))
+                  (and_from (row.row.moment == row.moment) (bytes_eq row.row.sender row.sender)
                   (eq-eqb row.row.moment row.moment row.moment_is)
-                  ((bytes_eq-Decides row.row.sender row.sender).1 row.sender_is),
+                  ((bytes_eq-Decides row.row.sender row.sender).1 row.sender_is))
+                  (lt-ltb 0 (length row.path)
+                  (paths number row.moment row.sender row.cause row.path row.message row.there)),
               refl,
             );
             has = some_by (text_by trade me journal number (ReceiptItem (kinds.NonAcceptance cause) id recipient moment)) text
@@ -592,14 +706,14 @@ module _ (trade : Trade) (me : ℕ) where
       pub serves : ServesItem trade me (half trade me journal) posted entry
       pub has : IsSome (item_text trade me journal posted)
 
-    pub needed_there : HaveEnvelope → (posted : Posted) (number : ℕ) → Contains (half trade me journal).items posted
+    pub needed_there : HaveEnvelope → HavePaths → (posted : Posted) (number : ℕ) → Contains (half trade me journal).items posted
         → needed_item (half trade me journal) posted ≡ Some number → NeededThere posted number
     unfolding needed_item
-    needed_there taken posted number placed e =
+    needed_there taken paths posted number placed e =
         let h = half trade me journal in
         let needs = mapped number_wanted (posted_wanted h posted) number e in
         let row = found_among (HasItemRow journal h.messages) h.items posted (have_entries journal).items placed in
-        let is = item_there taken posted.account posted.entry posted.item needs.0 row needs.1 in
+        let is = item_there taken paths posted.account posted.entry posted.item needs.0 row needs.1 in
         record {
           entry = is.entry;
           there = ap (slice_get journal) (sym needs.2) ∙ is.there;
@@ -607,12 +721,27 @@ module _ (trade : Trade) (me : ℕ) where
           has = is.has;
         }
 
+  path_along : (h : Half) (list : List Entry) → AllAlong (step trade me) (IsStep trade me) h list
+      → (k : ℕ) (moment : ℕ) (sender : Bytes) (cause : Cause) (path : Path) (message : Bytes)
+      → slice_get list k ≡ Some (entries.NotAccepted moment sender cause path message) → 0 < length path
+  path_along h [] steps k moment sender cause path message e = absurd (none-some _ e)
+  path_along h (entry ∷ list) steps zero moment sender cause path message e =
+      let this = entries.NotAccepted moment sender cause path message in
+      let is = subst (λ (one : Entry). IsStep trade me h one) (same_Some entry this e) steps.0 in
+      is.own.2
+  path_along h (entry ∷ list) steps (suc k) moment sender cause path message e =
+      path_along (step trade me h entry) list steps.1 k moment sender cause path message e
+
+  -- where each entry is a step of those before it, a message that wasn't accepted has a path
+  pub paths_of : (journal : List Entry) → AreSteps trade me journal → HavePaths journal
+  paths_of journal steps = path_along empty journal steps
+
   -- so an item's entry is always what it is composed of
-  pub items_unchanged : HaveEnvelope → (journal : List Entry) (item : Option Posted) (number : ℕ)
-      → ((posted : Posted) → item ≡ Some posted → Contains (half trade me journal).items posted)
+  pub items_unchanged : HaveEnvelope → (journal : List Entry) → AreSteps trade me journal → (item : Option Posted)
+      (number : ℕ) → ((posted : Posted) → item ≡ Some posted → Contains (half trade me journal).items posted)
       → PostedIsChanged trade me journal item number → ⊥
-  items_unchanged taken journal item number placed changed =
-      let is = needed_there journal taken changed.posted number (placed changed.posted changed.there) changed.needs in
+  items_unchanged taken journal steps item number placed changed =
+      let is = needed_there journal taken (paths_of journal steps) changed.posted number (placed changed.posted changed.there) changed.needs in
       changed.serves is.entry is.there is.serves
 
 -- ---- letters
@@ -623,10 +752,18 @@ TakenAreLicensed = (trade : Trade) (journals : Journals) → Fit trade journals 
     → taken_of (ledger trade journals by) id ≡ Some row
     → (bytes : Bytes) × (body_at (journals by) row.entry ≡ Some bytes) × IsEnvelopeText trade journals id by bytes
 
+-- and each decided pair was taken
+abbrev pub DecidedAreTaken : Type 0
+DecidedAreTaken = (trade : Trade) (journals : Journals) → Fit trade journals → (by : ℕ) (pair : Pair) (fate : Fate)
+    → decided_of (ledger trade journals by) pair ≡ Some fate → IsTakenPair trade by (ledger trade journals by) pair
+
 module _ (trade : Trade) (journals : Journals) (fit : Fit trade journals) (me : ℕ) (taken : HaveEnvelope trade me)
     (licensed : TakenAreLicensed)
+    (decided : DecidedAreTaken)
     (seen : (id : Id) (to : ℕ) (bytes : Bytes) (is : IsEnvelopeText trade journals id to bytes)
-    → trade.view bytes ≡ Some (SeenEnvelope id is.message.moment is.original)) where
+    → trade.view bytes ≡ Some (SeenEnvelope id is.message.moment is.original))
+    (addressed : (id : Id) (to : ℕ) (bytes : Bytes) (is : IsEnvelopeText trade journals id to bytes)
+    → trade.envelope_recipients bytes ≡ addresses_of is.message.facts) where
   abbrev journal : List Entry
   journal = journals me
 
@@ -639,12 +776,33 @@ module _ (trade : Trade) (journals : Journals) (fit : Fit trade journals) (me : 
     pub original : Bytes
     pub holds : Holds trade asked entry original
 
-  -- the entry by which a message was taken, with the original in its envelope
+  -- the entry by which a message was taken, with the original in its envelope, which names those for whom it was taken
   pub record TakenThere (id : Id) (row : Taken) : Type 0 where
     pub entry : Entry
     pub there : slice_get journal row.entry ≡ Some entry
     pub original : Bytes
     pub holds : enveloped_in trade id entry ≡ Some original
+    pub names : (recipient : Bytes) → Contains row.recipients recipient
+        → is_named_in (trade.facts original) recipient ≡ true
+
+  same_envelope : (a b : ℕ) (i j : Id) (one other : Bytes) → entries.Took a i one ≡ entries.Took b j other → one ≡ other
+  same_envelope a b i j one other e = cc
+
+  -- whoever it was taken for is one of its envelope's recipients
+  taken_for : (id : Id) (row : Taken) → taken_of own_half id ≡ Some row → (moment : ℕ) (envelope : Bytes)
+      → slice_get journal row.entry ≡ Some (entries.Took moment id envelope)
+      → (recipient : Bytes) → Contains row.recipients recipient
+      → list_any (bytes_eq recipient) (trade.envelope_recipients envelope) ≡ true
+  taken_for id row e moment envelope there recipient one =
+      let is = found_by (TakenRow trade me journal) (λ (one : Taken). same_id id one.id) own_half.taken row
+      (have_entries trade me journal).taken e in
+      let same : is.envelope ≡ envelope = same_envelope is.moment moment is.id id is.envelope envelope
+      (same_Some (entries.Took is.moment is.id is.envelope) (entries.Took moment id envelope) (sym is.there ∙ there)) in
+      any_filtered (bytes_eq recipient) (λ (address : Bytes). is_home me (trade.home address))
+      (trade.envelope_recipients envelope)
+      (subst (λ (all : Path). list_any (bytes_eq recipient) all ≡ true)
+      (is.recipients ∙ ap (λ (bytes : Bytes). at_home trade me (trade.envelope_recipients bytes)) same)
+      (list_any-from_Contains nat_list_eq_equiv recipient row.recipients one))
 
   taken_there : (id : Id) (row : Taken) → taken_of own_half id ≡ Some row → TakenThere id row
   unfolding ledger
@@ -665,6 +823,12 @@ module _ (trade : Trade) (journals : Journals) (fit : Fit trade journals) (me : 
             text.2.original
             (chosen_so (same_id id id) (Some found.1) None (id_again id))
             (ap (original_in id) view ∙ chosen_so (same_id id id) (Some text.2.original) None (id_again id));
+        names = λ recipient there.
+            ap (λ (facts : Option Facts). is_named_in facts recipient) text.2.is.facts
+            ∙ any_mapped (bytes_eq recipient) (λ (one : Recipient). one.address) text.2.message.facts.recipients
+            (subst (λ (all : Path). list_any (bytes_eq recipient) all ≡ true)
+            (ap trade.envelope_recipients same ∙ addressed id me text.0 text.2)
+            (taken_for id row e found.0 found.1 found.2 recipient there));
       }
 
   if_some : {X : Type 0} (test : Bool) (o : Option X) (x : X) → (if test then o else None) ≡ Some x → o ≡ Some x
@@ -678,26 +842,39 @@ module _ (trade : Trade) (journals : Journals) (fit : Fit trade journals) (me : 
       let row = mapped f (accepted_at own_half number) asked e in
       subst (λ (a : Asked). AskedThere a) row.2 (so row.0 (accepted_there trade me journal number row.0 row.1))
 
-  taken_asked : (id : Id) (f : Taken → Asked) (asked : Asked) → ((row : Taken) → TakenThere id row → AskedThere (f row))
+  taken_asked : (id : Id) (f : Taken → Asked) (asked : Asked)
+      → ((row : Taken) → taken_of own_half id ≡ Some row → TakenThere id row → AskedThere (f row))
       → option_map f (taken_of own_half id) ≡ Some asked → AskedThere asked
   taken_asked id f asked so e =
       let row = mapped f (taken_of own_half id) asked e in
-      subst (λ (a : Asked). AskedThere a) row.2 (so row.0 (taken_there id row.0 row.1))
+      subst (λ (a : Asked). AskedThere a) row.2 (so row.0 row.1 (taken_there id row.0 row.1))
 
   asked_there : (letter : Letter) (asked : Asked) → asked_by me own_half letter ≡ Some asked → AskedThere asked
+  unfolding ledger half
   asked_there (letters.Envelope id to) asked e =
       accepted_asked id.number (EnvelopeAsked id to) asked
       (λ row is. record { entry = is.entry; there = is.there; original = is.original; holds = is.holds })
       (if_some (id.provider == me) (option_map (EnvelopeAsked id to) (accepted_at own_half id.number)) asked e)
   asked_there (letters.Charge id by) asked e =
       taken_asked id (ChargeAsked id) asked
-      (λ row is. record { entry = is.entry; there = is.there; original = is.original; holds = is.holds })
+      (λ row e is. record { entry = is.entry; there = is.there; original = is.original; holds = is.holds })
       (if_some (by == me) (option_map (ChargeAsked id) (taken_of own_half id)) asked e)
   asked_there (letters.Outcome id recipient) asked e =
       let fate = bound (λ (fate : Fate). option_map (OutcomeAsked id recipient fate) (taken_of own_half id))
       (decided_of own_half (pair_of id recipient)) asked e in
+      let pair = decided trade journals fit me (pair_of id recipient) fate.0 fate.1 in
       taken_asked id (OutcomeAsked id recipient fate.0) asked
-      (λ row is. record { entry = is.entry; there = is.there; original = is.original; holds = is.holds }) fate.2
+      (λ row e is. record {
+        entry = is.entry;
+        there = is.there;
+        original = is.original;
+        holds = (
+          is.holds,
+          is.names recipient
+              (subst (λ (one : Taken). Contains one.recipients recipient) (same_Some pair.row row (sym pair.taken ∙ e))
+              pair.recipient),
+        );
+      }) fate.2
   asked_there (letters.Ack id recipient) asked e =
       let known = bound (λ (known : Known). option_map (AckAsked id recipient known) (accepted_at own_half id.number))
       (known_of own_half (pair_of id recipient)) asked

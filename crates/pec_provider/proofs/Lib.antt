@@ -10,4 +10,5 @@ mod RunLemmas
 mod ShowLemmas
 mod StepLemmas
 mod TickLemmas
+mod ToldLemmas
 mod TurnLemmas

@@ -15,7 +15,7 @@ use Rattle.pec_chronicle.specs.Chronicle.{ChronicleState}
 use Rattle.pec_provider.specs.Keeping.{kept_at}
 use Rattle.pec_provider.specs.Playing.{IsUnasked, IsUnshown, text_at}
 use Rattle.pec_provider.specs.Provider.{Desk}
-use Rattle.pec_provider.specs.Reading.{OnChanged, PostedIsChanged, Reads, ReadsOver}
+use Rattle.pec_provider.specs.Reading.{OnChanged, PostedIsChanged, Reads, ReadsOver, ShownBy}
 use Rattle.pec_provider.specs.declared.showing.Keeping.{Keeping}
 use Rattle.pec_provider.specs.declared.showing.Keeping.TheVariants as keepings
 use Rattle.pec_provider.proofs.KeptLemmas.{among}
@@ -109,6 +109,14 @@ module _ (trade : Trade) (me : ℕ) (journal : List Entry) (item : Option Posted
       → IfOk result (λ bytes. text_at trade me journal item ≡ Some bytes.items)
   shown_so (Ok bytes) is = ap (text_at trade me journal) there ∙ is
   shown_so (Err fault) is = tt
+
+  -- the entry that was read for it is the one that was read for the item that was asked for
+  pub given_for : (Stood : Type 0) (result : Result (Vec ℕ Global) ProviderFault)
+      → IfOk result (λ bytes. ShownBy Stood trade me journal (Some posted) bytes.items)
+      → IfOk result (λ bytes. ShownBy Stood trade me journal item bytes.items)
+  given_for Stood (Ok bytes) given =
+      subst (λ (o : Option Posted). ShownBy Stood trade me journal o bytes.items) (sym there) given
+  given_for Stood (Err fault) given = tt
 
   -- where its entry has changed, that of the item that was asked for has
   pub changed_so : {X : Type 0} (result : Result X ProviderFault)

@@ -10,6 +10,7 @@ use Rattle.pec_ledger.specs.Trade.{Trade}
 use Rattle.pec_plays.specs.Decisions.{undecided}
 use Rattle.pec_reception.specs.Shows.{Shows, decide_as}
 use Rattle.pec_reception.specs.declared.received.Received.{Received}
+use Rattle.pec_provider.specs.Reading.{FindsFirst}
 use Rattle.pec_provider.specs.Working.{IsFound}
 
 -- Nothing is undecided; or this is done with the first of these pairs, as screens found a rule for it or none.
@@ -20,12 +21,13 @@ ShowsNext trade me moment found journal (pair ∷ pairs) None = ⊥
 ShowsNext trade me moment found journal (pair ∷ pairs) (Some received) =
     Shows received (decide_as trade me moment found journal pair)
 
--- This is to be done, by what screens of these patterns find. `Stood` says when what was kept was read: then they
--- looked at the original that was taken.
+-- This is to be done, by what screens of these patterns find in the original in the envelope that was read. `Stood` says
+-- when what was kept was read: then that is the original that was taken.
 pub record IsReady (Stood : Type 0) (trade : Trade) (me moment : ℕ) (screens : List Patterns) (journal : List Entry)
     (next : Option Received) : Type 0 where
   pub found : Bool
   pub finds : Stood → IsFound trade me screens journal found
+  pub given : FindsFirst Stood trade me journal screens (undecided trade me journal) found
   pub shows : ShowsNext trade me moment found journal (undecided trade me journal) next
 
 -- the first of these pairs has an account as recipient

@@ -1,6 +1,6 @@
 -- How often screens looked, by what was answered: at the message of a submission, `Looks`, and at the original by
--- which a pair is decided, `LooksNext`. This project's profile.
-use Rattle.std.specs.Prelude.{◌≡◌, ◌⊎◌, ℕ, List, [], ◌∷◌, map, if◌then◌else◌, Option, Some, None, Result, Ok, Err}
+-- which a pair is decided, `LooksNext`; and whether that came to the screens, `HaveLooked`. This project's profile.
+use Rattle.std.specs.Prelude.{◌≡◌, ◌⊎◌, ℕ, List, [], ◌∷◌, map, if◌then◌else◌, IsSome, Option, Some, None, Result, Ok, Err}
 use Rattle.pec_types.specs.declared.turns.ProviderFault.{ProviderFault}
 use Rattle.pec_types.specs.declared.turns.ProviderFault.TheVariants as faults
 use Rattle.pec_points.specs.Admission.{Looked}
@@ -42,3 +42,10 @@ LooksNext trade me pairs interrupted before after (Err faults.DiskFault) =
 LooksNext trade me pairs interrupted before after (Err faults.NoMemory) =
     (after ≡ before) ⊎ LooksAt trade me pairs before after
 LooksNext trade me pairs interrupted before after (Err _) = after ≡ before
+
+-- The first pair came to the screens, if its recipient is an account: it was decided, or its entry wasn't appended then.
+abbrev pub HaveLooked : {X : Type 0} → Option Entry → Result X ProviderFault → Type 0
+HaveLooked interrupted (Ok x) = Unit {0}
+HaveLooked interrupted (Err faults.JournalFull) = Unit {0}
+HaveLooked interrupted (Err faults.DiskFault) = IsSome interrupted
+HaveLooked interrupted (Err _) = ⊥

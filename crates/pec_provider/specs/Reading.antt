@@ -1,17 +1,21 @@
 -- What the calls of a provider that read its disk leave (`Reads`), why they answer nothing (`IsUnread`), and when an entry
 -- isn't what a letter or an item is composed of, or what is decided on (`LetterIsChanged`, `ItemIsChanged`,
--- `VaultItemIsChanged`, `EnvelopeIsChanged`); of what frames are composed over any disk (`AreFramed`). This project's
--- profile.
-use Rattle.std.specs.Prelude.{◌≡◌, ◌⊎◌, ℕ, ◌<◌, ◌≤◌, Bool, true, false, List, [], ◌∷◌, ◌++◌, slice_get, Contains, Option, Some, None, Result, Ok, Err}
+-- `VaultItemIsChanged`, `EnvelopeIsChanged`); and over any disk, of which entry frames and items are composed, and in which
+-- screens find what they find (`AreFramed`, `ShownBy`, `FindsIn`). This project's profile.
+use Rattle.std.specs.Prelude.{◌≡◌, ◌⊎◌, ℕ, ◌<◌, ◌≤◌, Bool, true, false, IsTrue, List, [], ◌∷◌, ◌++◌, slice_get, Contains, Option, Some, None, Result, Ok, Err}
 use Rattle.std.specs.Option.{option_to_list}
 use Rattle.pec_types.specs.Bytes.{Bytes}
+use Rattle.pec_types.specs.Message.{Id}
 use Rattle.pec_types.specs.declared.letters.Letter.{Letter}
 use Rattle.pec_types.specs.declared.letters.Letter.TheVariants as letters
 use Rattle.pec_types.specs.declared.turns.ProviderFault.{ProviderFault}
 use Rattle.pec_types.specs.declared.turns.ProviderFault.TheVariants as faults
+use Rattle.pec_records.specs.Entry.{CanBeWritten}
 use Rattle.pec_records.specs.declared.entries.Entry.{Entry}
+use Rattle.pec_screen.specs.VerdictReading.{finds}
+use Rattle.pec_screen.specs.Verdicts.{Patterns}
 use Rattle.pec_ledger.specs.Due.{due_letters}
-use Rattle.pec_ledger.specs.Half.{Half, Posted}
+use Rattle.pec_ledger.specs.Half.{Posted}
 use Rattle.pec_ledger.specs.Lookups.{archive, mailbox}
 use Rattle.pec_ledger.specs.Pairs.{Pair}
 use Rattle.pec_ledger.specs.Steps.{half}
@@ -20,8 +24,8 @@ use Rattle.pec_plays.specs.Decisions.{undecided}
 use Rattle.pec_chronicle.specs.Chronicle.{ChronicleState}
 use Rattle.pec_outgoing.specs.declared.faults.ComposeFault.{ComposeFault}
 use Rattle.pec_outgoing.specs.declared.faults.ComposeFault.TheVariants as compose
-use Rattle.pec_outgoing.specs.ItemNeeds.{ServesItem, needed_item}
-use Rattle.pec_outgoing.specs.Needs.{FramedOf, Serves, needed}
+use Rattle.pec_outgoing.specs.ItemNeeds.{ServesItem, ShownOf, needed_item}
+use Rattle.pec_outgoing.specs.Needs.{FramedOf, Serves, enveloped_in, needed}
 use Rattle.pec_provider.specs.Provider.{Desk, stopped}
 
 -- ---- what is left
@@ -103,6 +107,10 @@ module _ (trade : Trade) (me : ℕ) (journal : List Entry) where
     pub next : undecided trade me journal ≡ pair ∷ pairs
     pub is : IsNotOf (letters.Charge pair.id me) number
 
+  -- The entry by which this message was taken, if it was, holds an envelope that is seen as one of it.
+  abbrev pub HasEnvelope : Id → Type 0
+  HasEnvelope id = (number : ℕ) → IsNotOf (letters.Charge id me) number → ⊥
+
   -- Of the entry of this number an item, where there is one, is to be composed, and it isn't what that is composed of.
   pub record PostedIsChanged (item : Option Posted) (number : ℕ) : Type 0 where
     pub posted : Posted
@@ -121,14 +129,53 @@ module _ (trade : Trade) (me : ℕ) (journal : List Entry) where
   VaultItemIsChanged account place number =
       PostedIsChanged (slice_get (archive (half trade me journal) account) place) number
 
--- ---- what frames are composed of
+-- ---- what was read
 
-module _ (trade : Trade) (me : ℕ) (half : Half) where
-  -- The frame of a letter, if there is one: none where the half doesn't have what the letter needs; and else what is
-  -- composed of some entry, which is what the letter is composed of.
+-- The entry that was read for this number. `Stood` says when the disk gave back what it took: then it is the entry of this
+-- number.
+pub record IsGiven (Stood : Type 0) (journal : List Entry) (number : ℕ) (entry : Entry) : Type 0 where
+  pub there : Stood → slice_get journal number ≡ Some entry
+  pub written : CanBeWritten entry
+
+module _ (Stood : Type 0) (trade : Trade) (me : ℕ) (journal : List Entry) where
+  -- What screens of these patterns find in the original of a message that was taken: the entry that was read holds its
+  -- envelope, and they looked at the original in that.
+  pub record FindsIn (screens : List Patterns) (id : Id) (found : Bool) : Type 0 where
+    pub number : ℕ
+    pub needs : needed me (half trade me journal) (letters.Charge id me) ≡ Some number
+    pub entry : Entry
+    pub given : IsGiven Stood journal number entry
+    pub original : Bytes
+    pub holds : enveloped_in trade id entry ≡ Some original
+    pub is : found ≡ finds screens original
+
+  -- So it is of the first of these pairs, where its recipient is an account.
+  abbrev pub FindsFirst : List Patterns → List Pair → Bool → Type 0
+  FindsFirst screens [] found = Unit {0}
+  FindsFirst screens (pair ∷ pairs) found = IsTrue (trade.is_account me pair.recipient) → FindsIn screens pair.id found
+
+  -- The bytes of an item, where there is one, composed of the entry that was read for it.
+  pub record ShownBy (item : Option Posted) (text : Bytes) : Type 0 where
+    pub posted : Posted
+    pub there : item ≡ Some posted
+    pub number : ℕ
+    pub needs : needed_item (half trade me journal) posted ≡ Some number
+    pub entry : Entry
+    pub given : IsGiven Stood journal number entry
+    pub of : ShownOf trade me (half trade me journal) posted entry text
+
+  -- The frame of a letter, unless it is too long, composed of the entry that was read for it.
+  pub record FramedBy (letter : Letter) (found : Option Bytes) : Type 0 where
+    pub number : ℕ
+    pub needs : needed me (half trade me journal) letter ≡ Some number
+    pub entry : Entry
+    pub given : IsGiven Stood journal number entry
+    pub of : FramedOf trade me (half trade me journal) letter entry found
+
+  -- The frame of a letter, if there is one: none where the half doesn't have what the letter needs.
   abbrev pub IsFramed : Letter → Option Bytes → Type 0
   IsFramed letter found =
-      ((needed me half letter ≡ None) × (found ≡ None)) ⊎ ((entry : Entry) × FramedOf trade me half letter entry found)
+      ((needed me (half trade me journal) letter ≡ None) × (found ≡ None)) ⊎ FramedBy letter found
 
   -- So are these the frames of letters, in their order.
   abbrev pub AreFramed : List Letter → List Bytes → Type 0

@@ -14,8 +14,9 @@ use Rattle.pec_plays.specs.Reception.{arrive}
 use Rattle.pec_plays.specs.Steps.{Step, journal_after}
 use Rattle.pec_plays.specs.Turns.{last_of}
 pub use Rattle.pec_reception.specs.Shows.{decide_as}
+use Rattle.pec_provider.specs.Looking.{HaveLooked}
 use Rattle.pec_provider.specs.Provider.{Desk}
-use Rattle.pec_provider.specs.Reading.{HasStopped}
+use Rattle.pec_provider.specs.Reading.{FindsFirst, HasStopped}
 
 -- ---- desks
 
@@ -100,10 +101,12 @@ module _ (trade : Trade) (me now : ℕ) where
   Decides found old new answer =
       Works (DecidesFirst trade me now found (undecided trade me old.journal) old new) old new answer
 
-  -- So it is with what screens of these patterns find. `Stood` says when the provider's disk gave back what it took:
-  -- then they look at the original that was taken.
+  -- So it is with what screens of these patterns find in the original in the envelope that was read, where the pair came to
+  -- them. `Stood` says when the provider's disk gave back what it took: then that is the original that was taken.
   pub record DecidesBy (Stood : Type 0) (screens : List Patterns) (old new : Desk)
       (answer : Result (Option Event) ProviderFault) : Type 0 where
     pub found : Bool
     pub finds : Stood → IsFound trade me screens old.journal found
+    pub given : HaveLooked new.interrupted answer
+        → FindsFirst Stood trade me old.journal screens (undecided trade me old.journal) found
     pub decides : Decides found old new answer

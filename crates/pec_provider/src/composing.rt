@@ -6,16 +6,15 @@ ghost use Rattle.pec_types.specs.declared.letters.Letter.{Letter as SomeLetter};
 ghost use Rattle.pec_types.specs.declared.turns.ProviderFault.TheVariants as faults;
 ghost use Rattle.pec_outside.specs.Flow.{HasRisen};
 ghost use Rattle.pec_journal.specs.JournalFile.{places_of};
-ghost use Rattle.pec_records.specs.Entry.{entry_text};
+ghost use Rattle.pec_records.specs.Entry.{CanBeWritten, entry_text};
 ghost use Rattle.pec_ledger.specs.Items.{item_text};
-ghost use Rattle.pec_ledger.specs.Steps.{half};
 ghost use Rattle.pec_plays.specs.Frames.{frame_of};
 ghost use Rattle.pec_reception.specs.OfTrades.{world_at};
 ghost use Rattle.pec_outgoing.specs.ItemNeeds.{needed_item};
 ghost use Rattle.pec_chronicle.specs.Carrying.{CarriesOn, NothingMay};
 ghost use Rattle.pec_chronicle.specs.Chronicle.{Stands};
 ghost use Rattle.pec_stock.specs.Stock.{Agree};
-ghost use Rattle.pec_provider.specs.Reading.{AreFramed, GivesUp, IsAbsent, IsFramed, IsNotOf, OnChanged, PostedIsChanged, ReadsOver, as_provider};
+ghost use Rattle.pec_provider.specs.Reading.{AreFramed, GivesUp, IsAbsent, IsFramed, IsNotOf, OnChanged, PostedIsChanged, ReadsOver, ShownBy, as_provider};
 
 use pec_chronicle::{Chronicle, ReadFault};
 use pec_outgoing::{ComposeFault, due_letters_have_the_due_frames, framed, item, needed};
@@ -41,9 +40,10 @@ pub(crate) fn frames_of<D: Disk, S: Sealer>(
     requires is { shelf.now.me ≡ house.now.me }
     ensures frames { D.tells → Stands D.sight chronicle.old → IfOk result (λ frames. frames.items
         ≡ filter_map (frame_of (world_at house.now) house.now.me chronicle.old.entries) letters.now) }
-    // Over any disk they are composed of entries that are what the letters are composed of, and no letter is left out.
-    ensures given { IfOk result (λ frames. AreFramed (world_at house.now) house.now.me
-        (half (world_at house.now) house.now.me chronicle.old.entries) letters.now frames.items) }
+    // Over any disk they are composed of the entries that were read, which are what the letters are composed of, and no
+    // letter is left out.
+    ensures given { IfOk result (λ frames. AreFramed (D.tells × Stands D.sight chronicle.old) (world_at house.now)
+        house.now.me chronicle.old.entries letters.now frames.items) }
     ensures few { IfOk result (λ frames. length frames.items ≤ length letters.now) }
     ensures changed { D.tells → Stands D.sight chronicle.old → IfErr result (OnChanged (λ number. (letter : SomeLetter)
         × Contains letters.now letter
@@ -87,8 +87,8 @@ fn frame_for<D: Disk, S: Sealer>(
     requires is { shelf.now.me ≡ house.now.me }
     ensures frame { D.tells → Stands D.sight chronicle.old → IfOk result (λ found. found
         ≡ frame_of (world_at house.now) house.now.me chronicle.old.entries letter.now) }
-    ensures given { IfOk result (IsFramed (world_at house.now) house.now.me
-        (half (world_at house.now) house.now.me chronicle.old.entries) letter.now) }
+    ensures given { IfOk result (IsFramed (D.tells × Stands D.sight chronicle.old) (world_at house.now) house.now.me
+        chronicle.old.entries letter.now) }
     ensures changed { D.tells → Stands D.sight chronicle.old → IfErr result (OnChanged
         (IsNotOf (world_at house.now) house.now.me chronicle.old.entries letter.now)) }
     ensures reads { ReadsOver chronicle.old chronicle.new result }
@@ -124,6 +124,9 @@ pub(crate) fn bytes_of<D: Disk, S: Sealer>(
     requires needs { needed_item shelf.now.half posted.now ≡ Some number }
     ensures shown { D.tells → Stands D.sight chronicle.old → IfOk result (λ bytes.
         item_text (world_at house.now) house.now.me chronicle.old.entries posted.now ≡ Some bytes.items) }
+    // Over any disk they are composed of the entry that was read, which is what the item is composed of.
+    ensures given { IfOk result (λ bytes. ShownBy (D.tells × Stands D.sight chronicle.old) (world_at house.now)
+        house.now.me chronicle.old.entries (Some posted.now) bytes.items) }
     ensures changed { D.tells → Stands D.sight chronicle.old → IfErr result (OnChanged
         (PostedIsChanged (world_at house.now) house.now.me chronicle.old.entries (Some posted.now))) }
     ensures reads { ReadsOver chronicle.old chronicle.new result }
@@ -152,6 +155,7 @@ pub(crate) fn read<D: Disk>(
     requires places { shelf.now.places ≡ places_of (map entry_text chronicle.old.entries) }
     ensures entry { D.tells → Stands D.sight chronicle.old → IfOk result (λ entry.
         slice_get chronicle.old.entries number ≡ Some entry) }
+    ensures written { IfOk result CanBeWritten }
     // Over a disk that tells what it holds an entry is told as changed only where there is none of its number.
     ensures changed { D.tells → Stands D.sight chronicle.old → IfErr result (OnChanged (IsAbsent chronicle.old.entries number)) }
     ensures reads { ReadsOver chronicle.old chronicle.new result }
@@ -184,6 +188,7 @@ pub(crate) fn read_at<D: Disk>(
     ensures unchanged { D.tells → Stands D.sight chronicle.old
         → slice_get (places_of (map entry_text chronicle.old.entries)) number ≡ Some place
         → (changed : ℕ) → IsErrOf result (faults.Changed changed) → ⊥ }
+    ensures written { IfOk result CanBeWritten }
     ensures reads { ReadsOver chronicle.old chronicle.new result }
     ensures carries { D.tells → CarriesOn D.sight NothingMay chronicle.old chronicle.new }
     ensures disk_fault { IsErrOf result faults.DiskFault

@@ -14,7 +14,7 @@ ghost use Rattle.pec_stock.specs.Stock.{Agree};
 ghost use Rattle.pec_reception.specs.Shows.{IsLimited};
 ghost use Rattle.pec_provider.specs.Deciding.{IsReady, IsUnready};
 ghost use Rattle.pec_provider.specs.Looking.{LooksNext};
-ghost use Rattle.pec_provider.specs.Reading.{EnvelopeIsChanged, IsNotOf, OnChanged, ReadsOver};
+ghost use Rattle.pec_provider.specs.Reading.{EnvelopeIsChanged, FindsIn, IsNotOf, OnChanged, ReadsOver};
 
 use crate::composing::{given_up, read};
 use pec_chronicle::Chronicle;
@@ -94,6 +94,9 @@ fn found_for<D: Disk, S: Sealer, J: Judge>(
     ensures found { D.tells → Stands D.sight chronicle.old → IfOk result (λ found.
         IsTrue ((world_at house.now).is_account house.now.me recipient.now) → found
         ≡ found_in_taken (world_at house.now) house.now.me (J.patterns screens.old) chronicle.old.entries id) }
+    ensures given { IfOk result (λ found. IsTrue ((world_at house.now).is_account house.now.me recipient.now)
+        → FindsIn (D.tells × Stands D.sight chronicle.old) (world_at house.now) house.now.me chronicle.old.entries
+        (J.patterns screens.old) id found) }
     ensures account { OnErr result (IsTrue ((world_at house.now).is_account house.now.me recipient.now)) }
     ensures changed { D.tells → Stands D.sight chronicle.old → IfErr result (OnChanged
         (IsNotOf (world_at house.now) house.now.me chronicle.old.entries (letters.Charge id house.now.me))) }
@@ -116,7 +119,8 @@ fn found_for<D: Disk, S: Sealer, J: Judge>(
     Ok(found)
 }
 
-/// Whether some screen finds a rule in the original of a message that was taken, in the envelope that is read.
+/// Whether some screen finds a rule in the original of a message that was taken, in the envelope that is read. An entry
+/// that holds no envelope of the message is told as changed, and no screen looks.
 fn found_in<D: Disk, S: Sealer, J: Judge>(
     alloc: Global,
     house: &House<'_, S>,
@@ -131,6 +135,9 @@ fn found_in<D: Disk, S: Sealer, J: Judge>(
     requires taken { IsSome (taken_of shelf.now.half id) }
     ensures found { D.tells → Stands D.sight chronicle.old → IfOk result (λ found. found
         ≡ found_in_taken (world_at house.now) house.now.me (J.patterns screens.old) chronicle.old.entries id) }
+    // Over any disk they find it in an envelope of the message, which was read.
+    ensures given { IfOk result (FindsIn (D.tells × Stands D.sight chronicle.old) (world_at house.now) house.now.me
+        chronicle.old.entries (J.patterns screens.old) id) }
     ensures changed { D.tells → Stands D.sight chronicle.old → IfErr result (OnChanged
         (IsNotOf (world_at house.now) house.now.me chronicle.old.entries (letters.Charge id house.now.me))) }
     ensures looked { OnOk result (J.seen screens.new ≡ map counted (J.seen screens.old)) }

@@ -17,7 +17,7 @@ mod swapping;
 mod telling;
 mod turns;
 
-pub use laws::{nothing_has_changed, what_follows_goes_on};
+pub use laws::{facts_are_told_of_an_envelope, nothing_has_changed, what_follows_goes_on};
 pub use pec_chronicle::CreateFault;
 pub use pec_outgoing::refused_facts;
 pub use pec_reception::{

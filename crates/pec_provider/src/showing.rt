@@ -4,6 +4,7 @@ ghost use Rattle.pec_types.specs.declared.turns.ProviderFault.TheVariants as fau
 ghost use Rattle.pec_outside.specs.Flow.{HasRisen};
 ghost use Rattle.pec_directory.specs.Directory.{Kept};
 ghost use Rattle.pec_ledger.specs.Books.{archive_lines, book, mailbox_lines};
+ghost use Rattle.pec_ledger.specs.Lookups.{archive, mailbox};
 ghost use Rattle.pec_ledger.specs.OfDirectory.{IsOf};
 ghost use Rattle.pec_ledger.specs.Steps.{half};
 ghost use Rattle.pec_ledger.specs.Trade.{Trade};
@@ -14,7 +15,7 @@ ghost use Rattle.pec_chronicle.specs.Chronicle.{Stands};
 ghost use Rattle.pec_provider.specs.Keeping.{kept_at};
 ghost use Rattle.pec_provider.specs.Playing.{IsUnasked, IsUnshown, item_at, text_at, vault_item_at};
 ghost use Rattle.pec_provider.specs.Provider.{Runs, RunsIn, desk_of};
-ghost use Rattle.pec_provider.specs.Reading.{IsUntold, ItemIsChanged, OnChanged, PostedIsChanged, Reads, VaultItemIsChanged};
+ghost use Rattle.pec_provider.specs.Reading.{IsUntold, ItemIsChanged, OnChanged, PostedIsChanged, Reads, ShownBy, VaultItemIsChanged};
 
 use crate::composing::{bytes_of, read_at};
 use crate::provider::Provider;
@@ -126,6 +127,11 @@ impl<D: Disk> Provider<D> {
         // Over a disk that tells what it holds, and on which what is kept stands, they are the item's.
         ensures shown { D.tells → Stands D.sight self.old.chronicle → IfOk result (λ bytes.
             item_at (world_at house.now) house.now.me self.old.chronicle.entries account.now place ≡ Some bytes.items) }
+        // Over any disk they are composed of the entry that was read, which is what the item is composed of.
+        ensures given { IfOk result (λ bytes. ShownBy (D.tells × Stands D.sight self.old.chronicle)
+            (world_at house.now) house.now.me self.old.chronicle.entries
+            (slice_get (mailbox (half (world_at house.now) house.now.me self.old.chronicle.entries) account.now) place)
+            bytes.items) }
         ensures some { OnOk result
             (IsSome (item_at (world_at house.now) house.now.me self.old.chronicle.entries account.now place)) }
         ensures asked { (trade : Trade) → IsOf house.now.directory.now trade
@@ -160,6 +166,11 @@ impl<D: Disk> Provider<D> {
         ensures shown { D.tells → Stands D.sight self.old.chronicle → IfOk result (λ bytes.
             vault_item_at (world_at house.now) house.now.me self.old.chronicle.entries account.now place
             ≡ Some bytes.items) }
+        // Over any disk they are composed of the entry that was read, which is what the item is composed of.
+        ensures given { IfOk result (λ bytes. ShownBy (D.tells × Stands D.sight self.old.chronicle)
+            (world_at house.now) house.now.me self.old.chronicle.entries
+            (slice_get (archive (half (world_at house.now) house.now.me self.old.chronicle.entries) account.now) place)
+            bytes.items) }
         ensures some { OnOk result
             (IsSome (vault_item_at (world_at house.now) house.now.me self.old.chronicle.entries account.now place)) }
         ensures asked { (trade : Trade) → IsOf house.now.directory.now trade
@@ -193,6 +204,9 @@ impl<D: Disk> Provider<D> {
         ensures shown { D.tells → Stands D.sight self.old.chronicle → IfOk result (λ bytes.
             text_at (world_at house.now) house.now.me self.old.chronicle.entries (kept_at keeping
             (half (world_at house.now) house.now.me self.old.chronicle.entries) account.now place) ≡ Some bytes.items) }
+        ensures given { IfOk result (λ bytes. ShownBy (D.tells × Stands D.sight self.old.chronicle)
+            (world_at house.now) house.now.me self.old.chronicle.entries (kept_at keeping
+            (half (world_at house.now) house.now.me self.old.chronicle.entries) account.now place) bytes.items) }
         ensures some { OnOk result (IsSome
             (text_at (world_at house.now) house.now.me self.old.chronicle.entries (kept_at keeping
             (half (world_at house.now) house.now.me self.old.chronicle.entries) account.now place))) }

@@ -95,8 +95,8 @@ impl<D: Disk> Provider<D> {
     ) -> Result<Option<Event>, ProviderFault>
         requires runs { RunsIn house.now self.old }
 
-        // Over a disk that tells what it holds, and on which what is kept stands, they look at the original that was
-        // taken.
+        // They look at the original in an envelope of the message, which was read: over a disk that tells what it holds,
+        // and on which what is kept stands, at the original that was taken.
         ensures decides { DecidesBy (world_at house.now) house.now.me moment
             (D.tells × Stands D.sight self.old.chronicle)
             (J.patterns screens.old) (desk_of self.old) (desk_of self.new) result }
@@ -244,10 +244,10 @@ impl<D: Disk> Provider<D> {
         // Over a disk that tells what it holds, and on which what is kept stands, they are exactly those.
         ensures due { D.tells → Stands D.sight self.old.chronicle → IfOk result (λ frames. frames.items
             ≡ due_frames (world_at house.now) house.now.me self.old.chronicle.entries to room self.old.owed) }
-        // Over any disk they are composed of entries that are what the due letters are composed of, and none of these
-        // is left out for which the provider has what it needs.
-        ensures given { IfOk result (λ frames. AreFramed (world_at house.now) house.now.me
-            (half (world_at house.now) house.now.me self.old.chronicle.entries)
+        // Over any disk they are composed of the entries that were read, which are what the due letters are composed of,
+        // and none of these is left out for which the provider has what it needs.
+        ensures given { IfOk result (λ frames. AreFramed (D.tells × Stands D.sight self.old.chronicle)
+            (world_at house.now) house.now.me self.old.chronicle.entries
             (due_letters (world_at house.now) house.now.me
             (half (world_at house.now) house.now.me self.old.chronicle.entries) to room self.old.owed) frames.items) }
         ensures few { IfOk result (λ frames. length frames.items ≤ room) }

@@ -449,7 +449,7 @@ module _ {D S : Type 0} (sight : D → Sight) (count : D → ℕ) (tells : Type 
       looked_comes input reply address place asks shows.said shows.may_say shows.answer
 
   -- memory ran out
-  lacks : (input : Bytes) (reply : Reply) → reply ≡ memory_reply → HasRested desk_answers desk after → Comes input reply
+  lacks : (input : Bytes) (reply : Reply) → reply ≡ memory_reply → HasRested desk_answers desk input after → Comes input reply
   lacks input reply is (inl same) = rests input reply connections.Lacks tt refl same is
   lacks input reply is (inr read) =
       idle input reply connections.Lacks tt refl read.shown.reads.is.1

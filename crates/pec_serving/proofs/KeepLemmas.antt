@@ -65,13 +65,13 @@ module _ {D S : Type 0} (sight : D → Sight) (count : D → ℕ) (disks : Type 
     holds_answered (Ok (See address looks.Items)) reply shows = holds_same shows.may_say.1
     holds_answered (Ok (See address (looks.Item place))) reply shows = reads address place shows.said shows.may_say
 
-    holds_rested : HasRested desk_answers desk after → Holds after
-    holds_rested (inl same) = holds_same same
-    holds_rested (inr read) = reads read.address read.place (Ok read.bytes) read.shown
+    holds_rested : (input : Bytes) → HasRested desk_answers desk input after → Holds after
+    holds_rested input (inl same) = holds_same same
+    holds_rested input (inr read) = reads read.address read.place (Ok read.bytes) read.shown
 
     holds_by : (input : Bytes) (reply : Reply) → IsAnswerOrLack desk_answers desk input after reply → Holds after
     holds_by input reply (inl answer) = holds_answered answer.asked reply answer.answered
-    holds_by input reply (inr lack) = holds_rested lack.1
+    holds_by input reply (inr lack) = holds_rested input lack.1
 
     pub holds_served : (left held held_then : Option Bytes) (told : Served)
         → Serves desk_answers left held desk after held_then told → Holds after

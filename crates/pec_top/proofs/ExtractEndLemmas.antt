@@ -10,7 +10,7 @@ use Rattle.pec_input.specs.declared.opening.TheConstants.{LONGEST_DIRECTORY}
 use Rattle.pec_ledger.specs.Network.{chosen}
 use Rattle.pec_ledger.specs.Trade.{Trade}
 use Rattle.pec_seal.specs.Seals.{Seals}
-use Rattle.pec_extract.specs.Logs.{IsChangedIn}
+use Rattle.pec_extract.specs.Logs.{IsChangedIn, LogsTell}
 use Rattle.pec_dossier.specs.Extracts.{ExtractsNone, GoesOn, HasOpened, IsAt, Range, TellsHeader, finish_at}
 use Rattle.pec_runs.specs.Endings.{End, end_text}
 use Rattle.pec_runs.specs.Happened.{IsSetting, Setting, trade_in}
@@ -132,6 +132,7 @@ module _ {D : Type 0} (tells : Type 0) (sight : D → Sight) (faults : D → ℕ
                   (record { told = told; disks = untouched_; had = had });
             };
             changed = λ both is. absurd (unchanged is);
+            unchanged = λ both is whole me within. absurd (omega (arith, within));
           }
 
       -- The input is too long, or is refused.
@@ -148,6 +149,7 @@ module _ {D : Type 0} (tells : Type 0) (sight : D → Sight) (faults : D → ℕ
               (record { told = told; disks = untouched_; had = had });
         };
         changed = λ both is. absurd (unchanged is);
+        unchanged = λ both is whole me within. absurd (omega (arith, within));
       }
 
   module _ (bytes : Bytes) (input : IfSome unread (λ text. bytes ≡ text)) (short : length bytes ≤ LONGEST_DIRECTORY)
@@ -159,8 +161,10 @@ module _ {D : Type 0} (tells : Type 0) (sight : D → Sight) (faults : D → ℕ
         (record { kept = kept; seals = seals }) opening
         → (tells → status ≡ statuses.Changed
         → (number : ℕ) × IsChangedIn (trade_in (record { kept = kept; seals = seals })) opening.journals number)
+        → (tells → status ≡ statuses.Done → opening.next ≡ NoMore
+        → LogsTell (trade_in (record { kept = kept; seals = seals })) range.from range.upto opening.journals)
         → Ran
-    log_opened seals opening is_setting has changed = record {
+    log_opened seals opening is_setting has changed none_is = record {
       so = record {
         bytes = bytes;
         early = false;
@@ -171,6 +175,7 @@ module _ {D : Type 0} (tells : Type 0) (sight : D → Sight) (faults : D → ℕ
             (sym (had_read bytes short (providers_of kept) reads)) (is_setting, has);
       };
       changed = changed;
+      unchanged = none_is;
     }
 
     -- Not all journals could be opened.
@@ -209,7 +214,7 @@ module _ {D : Type 0} (tells : Type 0) (sight : D → Sight) (faults : D → ℕ
           goes_on = goes_next setting at.opening at.opening.next at.some none;
           disks = subst (λ (f : Form). AreLeft (disks_at tells sight home) (disks_at tells sight left) f at.opening
               (opened_all (trade_in setting) [] at.opening.journals)) at.is_form at.left;
-        }) (λ both is. absurd (unchanged is))
+        }) (λ both is. absurd (unchanged is)) (λ both is whole. absurd (at.some whole))
 
 -- ---- counts of a run that was refused
 

@@ -72,6 +72,13 @@ module _ {X : Type 0} where
   log_changed (Err extracts.DiskFault) Is changed e = cc
   log_changed (Err (extracts.Changed number)) Is changed e = (number, changed)
 
+  pub log_done : (result : Result X ExtractFault) (P : Type 0) → OnOk result P → log_shown result ≡ statuses.Done → P
+  log_done (Ok done) P is e = is
+  log_done (Err extracts.NoMemory) P is e = absurd (cc e)
+  log_done (Err extracts.WriteFault) P is e = absurd (cc e)
+  log_done (Err extracts.DiskFault) P is e = absurd (cc e)
+  log_done (Err (extracts.Changed number)) P is e = absurd (cc e)
+
   pub log_failed : (result : Result X ExtractFault) → log_shown result ≡ statuses.DiskFault
       → IsErrOf result extracts.DiskFault
   log_failed (Ok done) e = cc

@@ -7,9 +7,10 @@ use Rattle.pec_directory.specs.Directory.{Provider}
 use Rattle.pec_records.specs.declared.entries.Entry.{Entry}
 use Rattle.pec_ledger.specs.Trade.{Trade}
 use Rattle.pec_dossier.specs.Extracts.{Extracted, Range}
-use Rattle.pec_extract.specs.Logs.{AllRead, HasRisenIn, IsChangedIn, log_text}
+use Rattle.pec_extract.specs.Logs.{AllRead, HasRisenIn, IsChangedIn, LogsTell, log_text}
 use Rattle.pec_extract.specs.Records.{header, record_text}
 use Rattle.pec_runs.specs.Happened.{trade_in}
+use Rattle.pec_runs.specs.Openings.{NoMore}
 use Rattle.pec_runs.specs.Ran.{Blames, Counts, NoneFell}
 use Rattle.pec_runs.specs.Statuses.{Status}
 use Rattle.pec_runs.specs.Statuses as statuses
@@ -39,12 +40,15 @@ pub record WereRead {D : Type 0} (tells reads : Type 0) (sight : D → Sight) (f
 -- ---- the run
 
 -- It ran so, but for the counts of faults of its devices. Over disks that tell what they hold an entry is told as changed
--- only where one of the journals that were opened holds, by which a message was taken, no envelope of that message.
+-- only where one of the journals that were opened holds, by which a message was taken, no envelope of that message; and at
+-- status 0 there is none of these for the rows that were written.
 pub record LogRanSo {D : Type 0} (tells : Type 0) (sight : D → Sight) (faults : D → ℕ) (range : Range) (status : Status)
     (unread before after : Option Bytes) (home left : ℕ → Option D) (from upto : ℕ → ℕ) : Type 0 where
   pub so : Extracted text_within header_text tells sight faults range status before after home left from upto unread
   pub changed : tells → status ≡ statuses.Changed
       → (number : ℕ) × IsChangedIn (trade_in so.setting) so.opening.journals number
+  pub unchanged : tells → status ≡ statuses.Done → so.opening.next ≡ NoMore
+      → LogsTell (trade_in so.setting) range.from range.upto so.opening.journals
 
 -- The program wrote an extract of logs so; and its status blames a device only where that one's count of faults rose.
 pub record LogRan {D : Type 0} (tells : Type 0) (sight : D → Sight) (faults : D → ℕ) (range : Range) (status : Status)

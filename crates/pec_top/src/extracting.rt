@@ -3,7 +3,7 @@ ghost use Rattle.pec_types.specs.Bytes.{Bytes};
 ghost use Rattle.pec_outside.specs.Flow.{HasRisen};
 ghost use Rattle.pec_directory.specs.Directory.{providers_of};
 ghost use Rattle.pec_dossier.specs.Extracts.{TellsHeader, TellsText};
-ghost use Rattle.pec_extract.specs.Logs.{AllStand, AllUp, IsChangedIn, log_text, logs_of};
+ghost use Rattle.pec_extract.specs.Logs.{AllStand, AllUp, IsChangedIn, LogsTell, log_text, logs_of};
 ghost use Rattle.pec_input.specs.Finding.{IsAtEnd};
 ghost use Rattle.pec_runs.specs.Statuses as statuses;
 ghost use Rattle.pec_serving.specs.OfNetworks.{IsOfDirectory, world_of};
@@ -101,6 +101,8 @@ fn extract_network<W: Sink, P: Depot, S: Sealer + Drop, J: Judge>(
     ensures headed { TellsHeader (status_shown result) header_text (W.held out.old) (W.held out.new) }
     ensures changed { P.D.tells → AllStand P.D.sight network.providers → status_shown result ≡ statuses.Changed
         → (number : ℕ) × IsChangedIn (world_of S.seals network) (logs_of network.providers) number }
+    ensures unchanged { P.D.tells → AllStand P.D.sight network.providers → status_shown result ≡ statuses.Done
+        → LogsTell (world_of S.seals network) from upto (logs_of network.providers) }
     ensures read { WereRead P.tells P.D.tells P.D.sight P.D.faults (status_shown result) network.providers
         (P.home depot.old) (P.home depot.new) (P.last depot.old) (P.last depot.new) }
     ensures write_fault { status_shown result ≡ statuses.WriteFault → HasRisen (W.faults out.old) (W.faults out.new) }

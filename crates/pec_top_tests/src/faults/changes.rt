@@ -1,10 +1,10 @@
 //! Journals of which a byte reads otherwise than it was written, while the program runs: bytes of an entry of each
 //! kind. What is composed of such an entry is told as changed; or it can't be seen that it changed, and no line is
-//! another, but for items that are shown.
+//! another, but for items that are shown. Where a taken message was changed, nothing is decided on it.
 
 use crate::faults::false_disks::FalseDepot;
 use crate::running::{System, depot_failing, joined, played};
-use pec_outside::{Depot, Disk, MemDepot};
+use pec_outside::{Depot, Disk};
 use pec_top::Status;
 use pec_trial::alfa;
 use std::alloc::Global;
@@ -137,7 +137,10 @@ fn first_wrong(rt: &impl System) -> Option<Option<usize>> {
 }
 
 /// The bytes of alfa's journal.
-fn journal_of(alloc: Global, depot: &mut MemDepot) -> Option<Vec<u8>> {
+fn journal_of<P: Depot>(alloc: Global, depot: &mut P) -> Option<Vec<u8>>
+where
+    P::D: Drop,
+{
     let mut disk = depot.disk(0).ok()?;
     let size = disk.size().ok()?;
     let mut journal = Vec::new(alloc);
@@ -152,6 +155,20 @@ fn size_at(journal: &[u8], begin: usize) -> Option<usize> {
     let mut bytes = [0; 4];
     bytes.copy_from_slice(length);
     Some(u32::from_be_bytes(bytes) as usize)
+}
+
+/// How many entries a journal has, of as many as there may be.
+fn entries_in(journal: &[u8]) -> Option<usize> {
+    let mut begin = HEADER + FRAMING;
+    for count in 0..entries().len() {
+        let gate = journal.get(begin.checked_sub(FRAMING)?)?;
+        if *gate != 1 {
+            return Some(count);
+        }
+        let size = size_at(journal, begin)?;
+        begin = begin.checked_add(size)?.checked_add(FRAMING)?;
+    }
+    Some(entries().len())
 }
 
 /// The place of the first byte of an entry whose change comes to what it mustn't.
@@ -201,7 +218,21 @@ fn is_told(
     }
     let lines = lines_of(alloc, &ran.text);
     let outcome = outcome_of(entry, &lines, &lines_of(alloc, whole));
+    if outcome == Outcome::ByATurn && entry.sealed < usize::MAX {
+        return is_undecided(alloc, &mut depot, &lines);
+    }
     is_enough(entry, byte, outcome)
+}
+
+/// Nothing is decided: no line tells it, and the journal has a start, an accepted message and a taken one.
+fn is_undecided(alloc: Global, depot: &mut FalseDepot, lines: &[&str]) -> bool {
+    if lines.iter().any(|line| line.contains(" decided ")) {
+        return false;
+    }
+    match journal_of(alloc, depot) {
+        Some(journal) => entries_in(&journal) == Some(3),
+        None => false,
+    }
 }
 
 /// What became of a change.
@@ -259,11 +290,10 @@ fn outcome_of(entry: &Kept, lines: &[&str], whole: &[&str]) -> Outcome {
     }
 }
 
-/// Whether a line is the one that was wanted; or an item was, and it is another one, or has no byte, as where nothing
-/// may be composed of its entry.
+/// Whether a line is the one that was wanted; or an item was, and it is another one.
 fn is_like(line: &str, wanted: Option<&&str>) -> bool {
     match wanted {
-        Some(wanted) => line == *wanted || is_item(wanted) && (line.is_empty() || is_item(line)),
+        Some(wanted) => line == *wanted || is_item(wanted) && is_item(line),
         None => false,
     }
 }

@@ -3,7 +3,7 @@ use Rattle.pec_chronicle.specs.Carrying.{NothingMay}
 use Rattle.pec_chronicle.specs.CarryingLaws.{carries_and_then}
 use Rattle.pec_directory.specs.Directory.{providers_of}
 use Rattle.pec_provider.specs.OfTrades.{world_at}
-use Rattle.pec_extract.proofs.LogLemmas.{front_so, on_err, row_so, taken_mid, taken_old, wrote_nothing}
+use Rattle.pec_extract.proofs.LogLemmas.{front_so, on_err, original_so, row_so, taken_mid, taken_old, wrote_nothing}
 use Rattle.pec_extract.proofs.logging.write_entry.Goals as goal
 
 pub returns-in_err-entry-clause-front : goal.returns-in_err-entry-clause-front
@@ -53,5 +53,14 @@ returns-clause-taken g c = λ tells stands taken.
     taken_old (world_at c.args.house.now) c.args.house.now.me c.args.provider.now c.entry_at.new.provider
     c.in_ok-entry.ensures.reads c.write_within.new.remembered
     (c.in_ok-write_within.ensures.taken tells ((c.in_ok-entry.ensures.carries tells).stands stands)
+    (taken_mid (world_at c.args.house.now) c.args.house.now.me c.args.provider.now c.entry_at.new.provider
+    c.in_ok-entry.ensures.reads c.args.remembered.now taken))
+
+pub returns-clause-original : goal.returns-clause-original
+returns-clause-original g c = λ tells stands taken told at.
+    original_so (world_at c.args.house.now) (providers_of c.args.house.now.directory.now) c.args.house.now.me
+    c.args.from c.args.upto c.args.number c.args.submitted c.args.provider.now c.entry_at.new.provider
+    c.in_ok-entry.ensures.reads c.in_ok-entry.entry told at (c.in_ok-entry.ensures.kept tells stands)
+    (c.in_ok-write_within.ensures.original tells ((c.in_ok-entry.ensures.carries tells).stands stands)
     (taken_mid (world_at c.args.house.now) c.args.house.now.me c.args.provider.now c.entry_at.new.provider
     c.in_ok-entry.ensures.reads c.args.remembered.now taken))

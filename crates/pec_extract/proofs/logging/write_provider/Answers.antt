@@ -5,7 +5,7 @@ use Rattle.pec_ledger.specs.Half.{Half}
 use Rattle.pec_provider.specs.Summing.{Summary, summary_within}
 use Rattle.pec_provider.specs.OfTrades.{world_at}
 use Rattle.pec_extract.specs.LogRows.{totals_in}
-use Rattle.pec_extract.proofs.LogLemmas.{log_begins, log_carries, log_ends, log_front, log_half, log_more, on_err, still_there}
+use Rattle.pec_extract.proofs.LogLemmas.{log_begins, log_carries, log_ends, log_front, log_half, log_more, log_tells, on_err, still_there}
 use Rattle.pec_extract.proofs.WholeLemmas.{grown_again, grown_none}
 use Rattle.pec_extract.proofs.logging.write_provider.Goals as goal
 
@@ -49,7 +49,8 @@ loop-number-preserved g c = (
         c.entries-number-end.ensures c.args.house.now.directory.now (g.S.Sealer.seals c.args.house.now.sealer.now)
             c.args.house.now.me (world_at c.args.house.now) c.requires.runs c.a_house_is_a_trade.ensures.of,
       ))
-      c.in_ok-submitted.ensures.taken c.in_ok-submitted.ensures.row c.in_ok-submitted.ensures.more,
+      c.in_ok-submitted.ensures.taken c.in_ok-submitted.ensures.row c.in_ok-submitted.ensures.more
+      c.in_ok-submitted.ensures.original,
   (
     omega (arith, c.loop-number.invariant.1.0, c.in_ok-submitted.ensures.later),
     (
@@ -88,6 +89,20 @@ returns-in_err-submitted-clause-carries g c =
 pub returns-clause-rows : goal.returns-clause-rows
 returns-clause-rows g c = λ tells stands.
     log_ends g.D.Disk.tells g.D.Disk.sight g.D.Counted.faults c.args.house.now.directory.now
+    (g.S.Sealer.seals c.args.house.now.sealer.now) (world_at c.args.house.now)
+    (providers_of c.args.house.now.directory.now) c.args.house.now.me c.args.from c.args.upto c.args.provider.now
+    (g.W.Stream.held c.args.out.now) c.loop-number.number c.loop-number.submitted c.loop-number.provider
+    (g.W.Stream.held c.loop-number.out) c.loop-number.remembered c.loop-number.invariant.0
+    (omega (
+      arith,
+      c.loop-number-test.false,
+      c.entries-number-end.ensures c.args.house.now.directory.now (g.S.Sealer.seals c.args.house.now.sealer.now)
+          c.args.house.now.me (world_at c.args.house.now) c.requires.runs c.a_house_is_a_trade.ensures.of,
+    )) tells stands
+
+pub returns-clause-tells : goal.returns-clause-tells
+returns-clause-tells g c = λ tells stands.
+    log_tells g.D.Disk.tells g.D.Disk.sight g.D.Counted.faults c.args.house.now.directory.now
     (g.S.Sealer.seals c.args.house.now.sealer.now) (world_at c.args.house.now)
     (providers_of c.args.house.now.directory.now) c.args.house.now.me c.args.from c.args.upto c.args.provider.now
     (g.W.Stream.held c.args.out.now) c.loop-number.number c.loop-number.submitted c.loop-number.provider

@@ -11,7 +11,7 @@ use Rattle.pec_extract.specs.Logs.{IsChangedFrom, logs_of, rows_of_all}
 use Rattle.pec_extract.specs.Reading.{IsLogChanged}
 use Rattle.pec_extract.specs.Records.{records_text}
 use Rattle.pec_extract.proofs.LogLemmas.{on_err}
-use Rattle.pec_extract.proofs.WholeLemmas.{all_read, both_texts, changed_first, changed_other, first_so, front_first, front_second, grown_again, none_read, on_changed, one_read, others_so, risen_first, risen_other, rows_cut, run_all, run_first, run_others, stopped_first, stopped_other}
+use Rattle.pec_extract.proofs.WholeLemmas.{all_read, both_texts, changed_first, changed_other, first_so, front_first, front_second, grown_again, none_read, on_changed, one_read, others_so, risen_first, risen_other, rows_cut, run_all, run_first, run_others, stopped_first, stopped_other, tells_all}
 use Rattle.pec_extract.proofs.whole.+write_each.Goals as goal
 
 pub write_provider-requires-clause-runs : goal.write_provider-requires-clause-runs
@@ -231,3 +231,12 @@ returns-in_err-rest-clause-stopped g t c =
     rw (same.1, same.2)
     (stopped_other c.args.providers.now c.in-Some.first.now c.write_provider.new.provider c.in-Some.others.now
     c.in-Some.ensures.cases.0 c.write_each.new.providers c.in_ok-own.ensures.reads _ c.in_err-rest.ensures.stopped)
+
+pub returns-clause-tells : goal.returns-clause-tells
+returns-clause-tells g t c = λ tells stands.
+    tells_all (trade_of c.args.directory.now (g.S.Sealer.seals c.args.sealer.now)) c.args.from c.args.upto c.args.me
+    c.args.providers.now c.in-Some.first.now c.in-Some.others.now c.in-Some.ensures.cases.0
+    (c.in_ok-own.ensures.tells tells (first_so (λ number provider. Stands g.D.Disk.sight provider.chronicle)
+    c.args.providers.now c.in-Some.first.now c.in-Some.others.now c.in-Some.ensures.cases.0 stands))
+    (c.in_ok-rest.ensures.tells tells (others_so (λ number provider. Stands g.D.Disk.sight provider.chronicle)
+    c.args.providers.now c.in-Some.first.now c.in-Some.others.now c.in-Some.ensures.cases.0 stands))

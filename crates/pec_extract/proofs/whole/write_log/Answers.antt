@@ -7,7 +7,7 @@ use Rattle.pec_extract.specs.Logs.{all_totals, logs_of, rows_of_all}
 use Rattle.pec_extract.specs.Records.{record_text, totals_record}
 use Rattle.pec_extract.specs.declared.writing.Totals.{Totals}
 use Rattle.pec_extract.proofs.LogLemmas.{on_err}
-use Rattle.pec_extract.proofs.WholeLemmas.{all_written, front_header, front_last, front_rows, none_read, run_from, run_to}
+use Rattle.pec_extract.proofs.WholeLemmas.{all_written, front_header, front_last, front_rows, none_read, run_from, run_to, tells_in}
 use Rattle.pec_extract.proofs.whole.write_log.Goals as goal
 
 pub returns-in_err-write_header-clause-err : goal.returns-in_err-write_header-clause-err
@@ -76,3 +76,8 @@ returns-clause-ok g c = λ tells stands.
     (c.in_ok-write_totals.ensures.ok
     ∙ ap (λ (totals : Totals). followed_by (g.W.Stream.held c.write_each.new.out) (record_text (totals_record totals)))
     c.in_ok-totals.ensures.totals)
+
+pub returns-clause-tells : goal.returns-clause-tells
+returns-clause-tells g c = λ tells stands.
+    tells_in (trade_of c.args.directory.now (g.S.Sealer.seals c.args.sealer.now)) c.args.from c.args.upto
+    (logs_of c.args.providers.now) (c.in_ok-totals.ensures.tells tells stands)

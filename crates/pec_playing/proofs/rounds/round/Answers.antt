@@ -38,7 +38,7 @@ returns-in-Err-clause-does g c =
     let keeps : Keeps g.D.Disk.sight g.D.Counted.faults g.D.Disk.tells network new =
     record { directory = told.same.0; many = many; seals = told.same.1; stands = told.stands; later = told.later } in
     round_stops g.D.Disk.sight g.D.Counted.faults g.D.Disk.tells trade c.args.moment network new keeps many
-    c.in-Err.ensures.stops
+    c.in-Err.ensures.stops.0
     _ refl
 
 pub returns-in_err-text-in-Ok-clause-does : goal.returns-in_err-text-in-Ok-clause-does

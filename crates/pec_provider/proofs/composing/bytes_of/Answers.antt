@@ -1,10 +1,10 @@
-use Rattle.std.proofs.Common.{ℕ, Global, Vec, ◌≡◌, Some, arith, ap, Err}
+use Rattle.std.proofs.Common.{ℕ, Global, Vec, ◌≡◌, Some, arith, ap, refl, Err}
 use Rattle.std.proofs.lemmas.Result.{err_from_is_err_and}
 use Rattle.pec_records.specs.declared.entries.Entry.{Entry}
 use Rattle.pec_ledger.specs.Items.{item_text}
 use Rattle.pec_chronicle.specs.Carrying.{NothingMay}
 use Rattle.pec_chronicle.specs.CarryingLaws.{carries_and_then}
-use Rattle.pec_outgoing.specs.ItemNeeds.{ServesItem, needed_item}
+use Rattle.pec_outgoing.specs.ItemNeeds.{ServesItem, ShownOf, needed_item}
 use Rattle.pec_reception.specs.OfTrades.{world_at}
 use Rattle.pec_provider.specs.Reading.{PostedIsChanged}
 use Rattle.pec_provider.proofs.ComposeLemmas.{changed_by, no_item, other_item, over_half}
@@ -41,6 +41,27 @@ returns-in-Ok-clause-shown g c = λ tells stands.
     (c.in-Ok.ensures.text journal c.args.number
     (record { half_is = c.requires.agree.holds.is_half trade of; homes = c.requires.agree.holds.homes trade of })
     c.requires.needs (c.in_ok-entry.ensures.entry tells stands))
+
+pub returns-in-Ok-clause-given : goal.returns-in-Ok-clause-given
+returns-in-Ok-clause-given g c =
+    let trade = world_at c.args.house.now in
+    let me = c.args.house.now.me in
+    let journal = c.args.chronicle.now.entries in
+    let half_is = c.requires.agree.holds.is_half trade c.a_house_is_a_trade.ensures.of in
+    record {
+      posted = c.args.posted.now;
+      there = refl;
+      number = c.args.number;
+      needs = over_half (λ n h. needed_item h c.args.posted.now ≡ Some c.args.number) trade c.args.shelf.now me journal
+          c.requires.is half_is c.requires.needs;
+      entry = c.in_ok-entry.entry;
+      given = record {
+        there = λ stood. c.in_ok-entry.ensures.entry stood.0 stood.1;
+        written = c.in_ok-entry.ensures.written;
+      };
+      of = over_half (λ n h. ShownOf trade n h c.args.posted.now c.in_ok-entry.entry c.in-Ok.bytes.items) trade
+          c.args.shelf.now me journal c.requires.is half_is c.in-Ok.ensures.of;
+    }
 
 pub returns-clause-changed : goal.returns-clause-changed
 returns-clause-changed g c = λ tells stands.

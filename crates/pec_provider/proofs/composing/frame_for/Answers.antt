@@ -93,9 +93,18 @@ returns-in_default-clause-given g c =
 pub returns-in-Ok-clause-given : goal.returns-in-Ok-clause-given
 returns-in-Ok-clause-given g c =
     let trade = world_at c.args.house.now in
-    inr (
-      c.in_ok-entry.entry,
-      over_half (λ n h. FramedOf trade n h c.args.letter.now c.in_ok-entry.entry c.in-Ok.frame) trade c.args.shelf.now
-          c.args.house.now.me c.args.chronicle.now.entries c.requires.is
-          (c.requires.agree.holds.is_half trade c.a_house_is_a_trade.ensures.of) c.in-Ok.ensures.of,
-    )
+    let me = c.args.house.now.me in
+    let journal = c.args.chronicle.now.entries in
+    let half_is = c.requires.agree.holds.is_half trade c.a_house_is_a_trade.ensures.of in
+    inr (record {
+      number = c.in-Some.number;
+      needs = over_half (λ n h. needed n h c.args.letter.now ≡ Some c.in-Some.number) trade c.args.shelf.now me journal
+          c.requires.is half_is (sym c.in-Some.ensures.number);
+      entry = c.in_ok-entry.entry;
+      given = record {
+        there = λ stood. c.in_ok-entry.ensures.entry stood.0 stood.1;
+        written = c.in_ok-entry.ensures.written;
+      };
+      of = over_half (λ n h. FramedOf trade n h c.args.letter.now c.in_ok-entry.entry c.in-Ok.frame) trade
+          c.args.shelf.now me journal c.requires.is half_is c.in-Ok.ensures.of;
+    })

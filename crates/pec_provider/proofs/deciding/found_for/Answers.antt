@@ -9,11 +9,18 @@ pub returns-then-not-is_account_of-clause-found : goal.returns-then-not-is_accou
 returns-then-not-is_account_of-clause-found g c = λ tells stands account.
     absurd (false≢true (sym c.if-not-is_account_of.true ∙ c.is_account_of.ensures.value ∙ account))
 
+pub returns-then-not-is_account_of-clause-given : goal.returns-then-not-is_account_of-clause-given
+returns-then-not-is_account_of-clause-given g c = λ account.
+    absurd (false≢true (sym c.if-not-is_account_of.true ∙ c.is_account_of.ensures.value ∙ account))
+
 pub returns-then-not-is_account_of-clause-looked : goal.returns-then-not-is_account_of-clause-looked
 returns-then-not-is_account_of-clause-looked g c =
     sym (ap (λ (b : Bool). if b then map counted (g.J.Judge.seen c.args.screens.now) else g.J.Judge.seen
     c.args.screens.now)
     (sym c.is_account_of.ensures.value ∙ c.if-not-is_account_of.true))
+
+pub returns-clause-given : goal.returns-clause-given
+returns-clause-given g c = λ account. c.in_ok-found.ensures.given
 
 pub returns-clause-looked : goal.returns-clause-looked
 returns-clause-looked g c =

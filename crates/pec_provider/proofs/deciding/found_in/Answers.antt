@@ -47,6 +47,27 @@ returns-in-Ok-clause-found g c = λ tells stands.
     (c.in-Ok.ensures.taken me journal row.row
     (ap (λ (n : ℕ). slice_get journal n) row.entry ∙ c.in_ok-entry.ensures.entry tells stands))
 
+pub returns-in-Ok-clause-given : goal.returns-in-Ok-clause-given
+returns-in-Ok-clause-given g c =
+    let trade = world_at c.args.house.now in
+    let me = c.args.house.now.me in
+    let journal = c.args.chronicle.now.entries in
+    let row = taken_at trade me journal c.args.shelf.now c.requires.is
+    (c.requires.agree.holds.is_half trade c.a_house_is_a_trade.ensures.of) c.args.id c.taken_by-number.result
+    c.requires.taken c.taken_by-number.ensures in
+    record {
+      number = c.taken_by-number.result;
+      needs = charge_needs trade me journal c.args.id row.row row.taken ∙ ap Some row.entry;
+      entry = c.in_ok-entry.entry;
+      given = record {
+        there = λ stood. c.in_ok-entry.ensures.entry stood.0 stood.1;
+        written = c.in_ok-entry.ensures.written;
+      };
+      original = c.in-Ok.original.now;
+      holds = c.in-Ok.ensures.holds;
+      is = c.some_finds.ensures.found;
+    }
+
 pub returns-clause-changed : goal.returns-clause-changed
 returns-clause-changed g c = λ tells stands.
     let trade = world_at c.args.house.now in

@@ -124,7 +124,7 @@ returns-clause-ready g c =
     half_is) in
     ready_some (g.D.Disk.tells × Stands g.D.Disk.sight c.args.chronicle.now) trade me c.args.moment
     (g.J.Judge.patterns c.args.screens.now) journal pair first.0 first.1 c.in_ok-received.received c.in_ok-found.found
-    (λ stood account. c.in_ok-found.ensures.found stood.0 stood.1 account)
+    (λ stood account. c.in_ok-found.ensures.found stood.0 stood.1 account) c.in_ok-found.ensures.given
     (subst
     (λ (n : ℕ). Shows c.in_ok-received.received (decide_as trade n c.args.moment c.in_ok-found.found journal pair))
     c.requires.is (c.in_ok-received.ensures.exact trade of journal half_is))

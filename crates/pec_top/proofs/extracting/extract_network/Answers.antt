@@ -4,7 +4,7 @@ use Rattle.pec_extract.specs.Logs.{AllRead, HasRisenIn}
 use Rattle.pec_serving.specs.OfNetworks.{AllAt, ProviderState}
 use Rattle.pec_top.specs.Extracting.{header_text}
 use Rattle.pec_top.specs.Shown.{status_shown}
-use Rattle.pec_top.proofs.ExtractingLemmas.{lent_again, log_changed, log_failed, log_headed, log_unwritten, text_told}
+use Rattle.pec_top.proofs.ExtractingLemmas.{lent_again, log_changed, log_done, log_failed, log_headed, log_unwritten, text_told}
 use Rattle.pec_top.proofs.extracting.extract_network.Goals as goal
 
 pub returns-clause-told : goal.returns-clause-told
@@ -28,6 +28,13 @@ returns-clause-changed g c = λ told stand is.
     let same = c.as_mut_slice.ensures.value ∙ parts.providers in
     let changed = rw (parts.directory, parts.sealer, same) at c.write_log-written.ensures.changed in
     log_changed c.write_log-written.result _ (changed told stand) (sym c.log_status.ensures.shown ∙ is)
+
+pub returns-clause-unchanged : goal.returns-clause-unchanged
+returns-clause-unchanged g c = λ told stand is.
+    let parts = c.into_parts-directory.ensures in
+    let same = c.as_mut_slice.ensures.value ∙ parts.providers in
+    let tells = rw (parts.directory, parts.sealer, same) at c.write_log-written.ensures.tells in
+    log_done c.write_log-written.result _ (tells told stand) (sym c.log_status.ensures.shown ∙ is)
 
 pub returns-clause-read : goal.returns-clause-read
 returns-clause-read g c =

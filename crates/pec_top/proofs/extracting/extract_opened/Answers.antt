@@ -42,6 +42,7 @@ returns-in-Ok-clause-ran g c = λ unread rest taken.
     (status_shown c.extract_network.result) network opened c.a_network_is_whole.ensures of.read range before after
     of.headed of.told)
     (λ told is. of.changed told.1 (opened.stands told) is)
+    (λ told is whole. of.unchanged told.1 (opened.stands told) is)
 
 pub returns-in-Ok-clause-counts : goal.returns-in-Ok-clause-counts
 returns-in-Ok-clause-counts g c =

@@ -11,7 +11,7 @@ use Rattle.pec_network.specs.Carrying.{AllStand}
 use Rattle.pec_network.specs.Network.{NetworkState, sites_of}
 use Rattle.pec_network.proofs.ChangeLemmas.{runs_from, stands_of_all, whole_from}
 use Rattle.pec_network.proofs.ConcernLemmas.{concerns_nobody, concerns_one}
-use Rattle.pec_network.proofs.ShowLemmas.{none_told, plays_box, read_as, show_so, vault_item_nowhere, vault_show_is}
+use Rattle.pec_network.proofs.ShowLemmas.{none_told, plays_box, read_as, own_so, show_so, vault_item_nowhere, vault_show_is}
 use Rattle.pec_network.proofs.network.Network.vault_item.Goals as goal
 
 pub returns-in_default-clause-shown : goal.returns-in_default-clause-shown
@@ -77,6 +77,8 @@ returns-clause-shown g c =
     let trade = trade_of c.self.inside.directory (g.S.Sealer.seals c.self.inside.sealer) in
     let says = c.a_trade_says_what_its_parts_say.ensures.directory c.self.inside.directory (g.S.Sealer.seals c.self.inside.sealer) in
     let was = c.index_mut.result.now in
+    let runs = runs_from c.self.inside.providers.items c.in-Some.me was was within c.index_mut.ensures.value c.self.inside.directory
+    c.self.inside.arrivals.items c.self.invariant.0 in
     let stands : AllStand g.D.Disk.sight c.self.inside.providers.items → Stands g.D.Disk.sight was.chronicle =
     stands_of_all c.self.inside.providers.items c.in-Some.me was c.vault_item.new.self within c.index_mut.ensures.value
     g.D.Disk.sight in
@@ -94,7 +96,8 @@ returns-clause-shown g c =
       unchanged = λ stood.
           none_told (VaultItemIsChanged trade c.in-Some.me was.chronicle.entries c.args.account.now c.args.place) c.vault_item.result
           (c.vault_item.ensures.changed stood.0 (stands stood.1))
-          (c.nothing_has_changed.ensures.vaults trade c.in-Some.me was.chronicle.entries c.args.account.now c.args.place);
+          (c.nothing_has_changed.ensures.vaults trade c.in-Some.me was.chronicle.entries
+          (own_so trade c.in-Some.me was runs says) c.args.account.now c.args.place);
       is = read_as (λ (bytes : Vec ℕ Global). Shown bytes.items)
           (λ (luck : Luck). plays_box trade archive c.args.account.now c.args.place luck all)
           (λ (luck : Luck). played trade luck all (VaultShow c.args.account.now c.args.place))

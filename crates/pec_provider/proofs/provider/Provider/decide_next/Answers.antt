@@ -17,8 +17,8 @@ use Rattle.pec_provider.specs.Following.{MayFollow}
 use Rattle.pec_provider.specs.Provider.{Desk, desk_of}
 use Rattle.pec_provider.specs.Reading.{EnvelopeIsChanged}
 use Rattle.pec_provider.specs.Working.{DecidesFirst, Does}
-use Rattle.pec_provider.proofs.DecideLemmas.{does_changed, idle_changed, limits_of, looks_failed, looks_idle, looks_whole}
-use Rattle.pec_provider.proofs.DecideLemmas.{undertakes_over}
+use Rattle.pec_provider.proofs.DecideLemmas.{does_changed, idle_changed, idle_unlooked, limits_of, looks_failed, looks_idle, looks_whole}
+use Rattle.pec_provider.proofs.DecideLemmas.{undertakes_over, unready_unlooked}
 use Rattle.pec_provider.proofs.FollowLemmas.{carries_any, carries_none, carries_still}
 use Rattle.pec_provider.proofs.TurnLemmas.{decision_follows, first_handed, first_there, found_of, found_so, idles_handed}
 use Rattle.pec_provider.proofs.TurnLemmas.{none_next, some_next, step_may, unready_handed, works_first}
@@ -38,6 +38,11 @@ returns-in_err-at_work-clause-decides g c =
     record {
       found = found;
       finds = λ stood. found_so trade me screens journal;
+      given =
+          let p = err_from_is_err_and c.from_residual.result c.from_residual.ensures.1 in
+          λ looked. absurd (idle_unlooked Event trade me c.args.moment old (Option Event) old.interrupted
+          c.in_err-at_work.field-0.0 (c.in_err-at_work.ensures.works kept seals me trade c.requires.runs of)
+          (rw (p.1, p.2) at looked));
       decides = idles_handed (Option Event) Event trade me c.args.moment
           (DecidesFirst trade me c.args.moment found (undecided trade me journal) old old) old
           c.in_err-at_work.field-0.0 c.from_residual.result c.from_residual.ensures.1
@@ -94,6 +99,12 @@ returns-in_err-received-clause-decides g c =
     record {
       found = found;
       finds = λ stood. found_so trade me screens journal;
+      given =
+          let p = err_from_is_err_and c.from_residual-in_err-received.result
+          c.from_residual-in_err-received.ensures.1 in
+          λ looked. absurd (unready_unlooked (Option Event) trade me (undecided trade me journal) new.interrupted
+          c.in_err-received.field-0.0 c.ready.ensures.whole c.in_err-received.ensures.unready
+          (rw (p.1, p.2) at looked));
       decides = works_first trade me c.args.moment old new found (undecided trade me journal)
           c.from_residual-in_err-received.result works
           (unready_handed trade me c.args.moment old new found (undecided trade me journal) c.in_err-received.field-0.0
@@ -143,6 +154,7 @@ returns-in_default-clause-decides g c =
     record {
       found = ready.found;
       finds = ready.finds;
+      given = λ looked. ready.given;
       decides = (
         works,
         subst (λ (l : List Pair). DecidesFirst trade me c.args.moment ready.found l old new (Ok None))
@@ -205,6 +217,7 @@ returns-in_err-event-clause-decides g c =
     record {
       found = found;
       finds = ready.finds;
+      given = λ looked. ready.given;
       decides = works_first trade me c.args.moment old new found (undecided trade me journal)
           c.from_residual-in_err-event.result works
           (first_handed trade me c.args.moment old new found (undecided trade me journal) first.pair first.pairs
@@ -317,6 +330,7 @@ returns-clause-decides g c =
     record {
       found = found;
       finds = ready.finds;
+      given = λ looked. ready.given;
       decides = (
         works,
         subst (λ (l : List Pair). DecidesFirst trade me c.args.moment found l old new (Ok (Some c.in_ok-event.event)))

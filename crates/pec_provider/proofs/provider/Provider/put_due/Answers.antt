@@ -1,5 +1,6 @@
 use Rattle.std.proofs.Common.{Bool, not, subst, sym, ◌∙◌}
 use Rattle.std.specs.Prelude.{IfErr}
+use Rattle.pec_chronicle.specs.Chronicle.{Stands}
 use Rattle.pec_reception.specs.OfTrades.{world_at}
 use Rattle.pec_provider.specs.Reading.{IsUnread}
 use Rattle.pec_provider.proofs.ComposeLemmas.{due_changed, due_so, few_so, given_so}
@@ -41,7 +42,8 @@ returns-clause-given g c =
     rw (← c.self.view_is)
     (given_so trade inside.shelf c.args.house.now.me inside.chronicle.entries c.args.to c.args.room inside.owed.items
     c.deref-2.result.now runs.is (runs.agree.holds.is_half trade c.a_house_is_a_trade.ensures.of)
-    (c.deref-2.ensures.value ∙ rw c.deref.ensures.value at c.in_ok-letters.ensures) c.frames_of.result
+    (c.deref-2.ensures.value ∙ rw c.deref.ensures.value at c.in_ok-letters.ensures)
+    (g.D.Disk.tells × Stands g.D.Disk.sight inside.chronicle) c.frames_of.result
     c.frames_of.ensures.given)
 
 pub returns-clause-few : goal.returns-clause-few

@@ -6,6 +6,8 @@ use Rattle.pec_directory.specs.Directory.{is_account_of, providers_of}
 use Rattle.pec_ledger.specs.Half.{Posted}
 use Rattle.pec_ledger.specs.Items.{item_text}
 use Rattle.pec_ledger.specs.Steps.{half}
+use Rattle.pec_shelf.specs.Prepared.{AreSteps}
+use Rattle.pec_chronicle.specs.Chronicle.{Stands}
 use Rattle.pec_outgoing.specs.ItemNeeds.{needed_item}
 use Rattle.pec_reception.specs.OfTrades.{world_at}
 use Rattle.pec_provider.specs.Keeping.{kept_at}
@@ -13,9 +15,10 @@ use Rattle.pec_provider.specs.Playing.{text_at}
 use Rattle.pec_provider.specs.Provider.{desk_of}
 use Rattle.pec_provider.specs.Reading.{PostedIsChanged}
 use Rattle.pec_provider.proofs.ComposeLemmas.{over_half}
-use Rattle.pec_provider.proofs.KeptLemmas.{needed_there}
+use Rattle.pec_provider.proofs.DecideLemmas.{steps_of}
+use Rattle.pec_provider.proofs.KeptLemmas.{needed_there, paths_of}
 use Rattle.pec_provider.proofs.RunLemmas.{desk_read, runs_inside, runs_read, up_inside}
-use Rattle.pec_provider.proofs.ShowLemmas.{changed_so, cut_off, kept_placed, not_asked, on_ok, shown_so, unasked_changed, unasked_reads, unasked_whole}
+use Rattle.pec_provider.proofs.ShowLemmas.{changed_so, cut_off, given_for, kept_placed, not_asked, on_ok, shown_so, unasked_changed, unasked_reads, unasked_whole}
 use Rattle.pec_provider.proofs.provider.Provider.shown_at.Goals as goal
 
 pub returns-in_err-asked-clause-refused : goal.returns-in_err-asked-clause-refused
@@ -114,6 +117,19 @@ returns-clause-shown g c =
     inside.shelf c.args.house.now.me inside.chronicle.entries runs.is (runs.agree.holds.is_half trade of)
     (sym c.in-Some.ensures)) c.bytes_of.result (c.bytes_of.ensures.shown tells stands))
 
+pub returns-clause-given : goal.returns-clause-given
+returns-clause-given g c =
+    let trade = world_at c.args.house.now in
+    let of = c.a_house_is_a_trade.ensures.of in
+    let inside = c.self.inside in
+    let runs = runs_inside c.args.house.now.directory.now c.args.house.now.me _ c.args.self.now c.self.view_is
+    c.requires.runs in
+    rw (← c.self.view_is) (given_for trade c.args.house.now.me inside.chronicle.entries _ c.in-Some.posted.now
+    (over_half (λ n h. kept_at c.args.keeping h c.args.account.now c.args.place ≡ Some c.in-Some.posted.now) trade
+    inside.shelf c.args.house.now.me inside.chronicle.entries runs.is (runs.agree.holds.is_half trade of)
+    (sym c.in-Some.ensures)) (g.D.Disk.tells × Stands g.D.Disk.sight inside.chronicle) c.bytes_of.result
+    c.bytes_of.ensures.given)
+
 pub returns-clause-some : goal.returns-clause-some
 returns-clause-some g c =
     let trade = world_at c.args.house.now in
@@ -128,7 +144,9 @@ returns-clause-some g c =
     trade inside.shelf me journal runs.is half_is (sym c.in-Some.ensures) in
     rw (← c.self.view_is) (on_ok c.bytes_of.result
     (subst (λ (o : Option Posted). IsSome (text_at trade me journal o)) (sym there)
-    (needed_there trade me journal c.a_taken_message_has_its_envelope.ensures c.in-Some.posted.now
+    (needed_there trade me journal c.a_taken_message_has_its_envelope.ensures
+    (paths_of trade me journal (subst (λ (n : ℕ). AreSteps trade n journal) runs.is
+    (steps_of c.args.house.now.directory.now inside.chronicle inside.shelf trade runs.agree of))) c.in-Some.posted.now
     c.in-Some-needed_item.number
     (kept_placed c.boxes_hold_what_was_placed.ensures.mailboxes c.boxes_hold_what_was_placed.ensures.archives
     c.args.keeping (half trade me journal) c.args.account.now c.args.place c.in-Some.posted.now there)
@@ -154,7 +172,9 @@ returns-clause-refused g c =
     (text_at trade me journal (kept_at c.args.keeping (half trade me journal) c.args.account.now c.args.place))
     (asked.0, up_inside c.self.view_is asked.1)
     (subst (λ (o : Option Posted). IsSome (text_at trade me journal o)) (sym there)
-    (needed_there trade me journal c.a_taken_message_has_its_envelope.ensures c.in-Some.posted.now
+    (needed_there trade me journal c.a_taken_message_has_its_envelope.ensures
+    (paths_of trade me journal (subst (λ (n : ℕ). AreSteps trade n journal) runs.is
+    (steps_of c.args.house.now.directory.now inside.chronicle inside.shelf trade runs.agree of))) c.in-Some.posted.now
     c.in-Some-needed_item.number
     (kept_placed c.boxes_hold_what_was_placed.ensures.mailboxes c.boxes_hold_what_was_placed.ensures.archives
     c.args.keeping (half trade me journal) c.args.account.now c.args.place c.in-Some.posted.now there)

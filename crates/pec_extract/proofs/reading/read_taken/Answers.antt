@@ -1,0 +1,13 @@
+-- Where the facts are told the entry holds an envelope of the message, and where there are none it wasn't taken.
+use Rattle.pec_provider.specs.OfTrades.{world_at}
+use Rattle.pec_extract.proofs.reading.read_taken.Goals as goal
+
+pub returns-in-Ok-clause-original : goal.returns-in-Ok-clause-original
+returns-in-Ok-clause-original g c = λ tells stands.
+    c.facts_are_told_of_an_envelope.ensures.told (world_at c.args.house.now) c.args.house.now.me
+    c.args.provider.now.chronicle.entries c.args.id c.in-Ok.facts (c.in-Ok.ensures.told tells stands)
+
+pub returns-in-NoItem-clause-original : goal.returns-in-NoItem-clause-original
+returns-in-NoItem-clause-original g c = λ tells stands.
+    c.facts_are_told_of_an_envelope.ensures.untaken (world_at c.args.house.now) c.args.house.now.me
+    c.args.provider.now.chronicle.entries c.args.id c.in-NoItem.ensures.refused.1
