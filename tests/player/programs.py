@@ -32,9 +32,9 @@ def program(top, is_proved):
 
 
 def crates(top):
-    """The crates below the player, and their lines of crates.txt with that of the player."""
+    """The crates below the player, and their lines of crates.txt and libraries.txt with that of the player."""
     lines, below = {}, {}
-    for file in (os.path.join(top, "crates.txt"), os.path.join(HERE, "program", "crates.txt")):
+    for file in (os.path.join(top, "crates.txt"), os.path.join(HERE, "program", "libraries.txt")):
         with open(file, encoding="utf-8") as text:
             for line in text:
                 name, colon, rest = line.partition(":")
