@@ -7,7 +7,7 @@ ghost use Rattle.pec_doors.specs.Devices.{ConnectionState, begun};
 
 use pec_outside::{Counted, Failed, Sink, Source, Stream};
 use std::io;
-use std::io::{Read, Write};
+use std::io::{ErrorKind, Read, Write};
 use std::marker::Model;
 use std::net::{Shutdown, TcpStream};
 use std::rt::Clock;
@@ -15,6 +15,9 @@ use std::time::{Duration, Instant};
 
 // So many pieces of 4,096 bytes are more than the greatest message, 31,457,280 bytes.
 const MOST_PIECES: u32 = 8_192;
+
+// So often a read or a write that a signal interrupts is asked again.
+const MOST_SIGNALS: u32 = 1_024;
 
 /// A connection of a `TcpDoor`. What it is sent and what reaches the client isn't told. This project's profile.
 ///
@@ -80,8 +83,41 @@ impl<R: Clock + Drop> TcpConnection<R> {
 }
 
 impl<R: Clock> TcpConnection<R> {
-    // A read that waits no longer than time is left, and its time is gone then.
+    // A read that waits no longer than time is left. One that a signal interrupts, as it does where the process is
+    // stopped and goes on (signal(7), "Interruption of system calls by stop signals"), is asked again.
     fn read_in_time(&mut self, room: &mut [u8]) -> io::Result<usize>
+        ensures within { ReadsAtMost result room.new }
+        ensures spent { self.new.left ≤ self.old.left }
+        ensures faults { self.new.faults ≡ self.old.faults }
+        ensures no_time { self.old.left ≡ 0 → IsErr result }
+    {
+        for _ in 0..MOST_SIGNALS {
+            match self.read_once(room) {
+                Err(error) if error.kind() == ErrorKind::Interrupted => (),
+                answer => return answer,
+            }
+        }
+        Err(io::Error::from(ErrorKind::Interrupted))
+    }
+
+    // A write that waits no longer than time is left, and is asked again likewise.
+    fn write_in_time(&mut self, piece: &[u8]) -> io::Result<usize>
+        ensures within { WritesAtMost result piece.now }
+        ensures spent { self.new.left ≤ self.old.left }
+        ensures faults { self.new.faults ≡ self.old.faults }
+        ensures no_time { self.old.left ≡ 0 → IsErr result }
+    {
+        for _ in 0..MOST_SIGNALS {
+            match self.write_once(piece) {
+                Err(error) if error.kind() == ErrorKind::Interrupted => (),
+                answer => return answer,
+            }
+        }
+        Err(io::Error::from(ErrorKind::Interrupted))
+    }
+
+    // A read that waits no longer than time is left, and its time is gone then.
+    fn read_once(&mut self, room: &mut [u8]) -> io::Result<usize>
         ensures within { ReadsAtMost result room.new }
         ensures spent { self.new.left ≤ self.old.left }
         ensures faults { self.new.faults ≡ self.old.faults }
@@ -95,7 +131,7 @@ impl<R: Clock> TcpConnection<R> {
     }
 
     // A write that waits no longer than time is left, and its time is gone then.
-    fn write_in_time(&mut self, piece: &[u8]) -> io::Result<usize>
+    fn write_once(&mut self, piece: &[u8]) -> io::Result<usize>
         ensures within { WritesAtMost result piece.now }
         ensures spent { self.new.left ≤ self.old.left }
         ensures faults { self.new.faults ≡ self.old.faults }
