@@ -16,7 +16,8 @@ STATUSES = {
     0: "done", 2: "usage", 3: "refused", 4: "read-fault", 5: "write-fault", 6: "no-memory", 7: "start-fault", 8: "not-empty",
     9: "not-fit", 10: "clock-fault", 11: "door-fault", 12: "input-too-long", 13: "disk-fault", 14: "changed",
 }  # fmt: skip
-PORT, SECONDS = 8125, 110
+# Seconds: a run, and a connection, may take so long on a machine with other work.
+PORT, SECONDS, WAIT = 8125, 110, 60
 # Keys of rows that only devices in memory can play.
 MEMORY = {
     "screens", "spares", "piece", "keeps", "fails-disk", "each-disk", "fails-read", "each-read", "fails-write", "each-write",
@@ -179,10 +180,10 @@ def met(meetings, texts):
     """The replies to requests, one connection each."""
     replies = []
     for request, _ in meetings:
-        end = time.monotonic() + 10
+        end = time.monotonic() + WAIT
         while True:
             try:
-                client = socket.create_connection(("127.0.0.1", PORT), timeout=10)
+                client = socket.create_connection(("127.0.0.1", PORT), timeout=WAIT)
                 break
             except ConnectionRefusedError:
                 if time.monotonic() > end:
